@@ -5,3 +5,8 @@ pub mod Grammar
 pub mod Printable
 pub mod Layout
 pub mod Stands
+pub mod Names
+pub mod Bits
+pub mod Value
+pub mod WellFormed
+pub mod Register
