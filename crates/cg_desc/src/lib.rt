@@ -4,10 +4,19 @@
 //! are public, and no value of a data type is refused here: whether one is valid is said by the
 //! layer that makes it. A description that breaks a rule is refused by a `Fault`, which names
 //! the rule, the file and the place. Want of memory is always told apart from it.
+//!
+//! Its specs have the definitions that several layers cite: the access table, and the step of a
+//! register block in one clock over a target, which knows nothing of the text that is written.
 #![tactic(auto)]
 
+mod block;
 mod fault;
 mod place;
 
+pub use block::{
+    AlertDesc, BlockDesc, ClockDesc, FaceDesc, FaceItems, FieldDesc, HostFace, HwAccess, IntrDesc,
+    IoDesc, IoDir, Item, LaidBlock, LaidFace, LaidRow, MultiDesc, RegDesc, SwAccess, WindowDesc,
+    Written,
+};
 pub use fault::{DescFault, Fault};
 pub use place::At;
