@@ -2,7 +2,7 @@
 -- the text that is written (OpenTitan Register Tool; TL-UL register adapter, its register side).
 use Rattle.std.specs.Prelude.{◌≡◌, ℕ, suc, ◌+◌, ◌-◌, ◌/◌, max, eqb, nat_eq, Bool, true, false, not, cond, ◌&&◌, ◌||◌, List, [], ◌∷◌, ◌++◌, take, drop, Option, Some, None}
 use Rattle.std.specs.Str.{str_eq_ignore_ascii_case}
-use Rattle.cg_svspec.specs.Bits.{Bits, any_bit, all_bits, zeros, ones}
+use Rattle.cg_svspec.specs.Bits.{Bits, bits, any_bit, all_bits, zeros, ones}
 use Rattle.cg_desc.specs.AccessTable.{is_readable, is_writable, hardware_writes, hardware_sees, after_hardware, next_value}
 use Rattle.cg_desc.specs.Target.{Target, register, word, error}
 use Rattle.cg_desc.specs.declared.block.SwAccess.{SwAccess}
@@ -188,7 +188,7 @@ pub record Outcome : Type 0 where
   pub re : RegDesc → FieldDesc → Bool
   pub window_we : WindowDesc → Bool
   pub window_re : WindowDesc → Bool
-  pub window_address : WindowDesc → ℕ
+  pub window_address : WindowDesc → Bits
   pub window_data : WindowDesc → Bits
   pub window_strobes : WindowDesc → Bits
 
@@ -209,7 +209,7 @@ pub record FieldSteps (face : LaidFace) (target : Target) (a : Access) (fields :
 pub record WindowSteps (face : LaidFace) (target : Target) (a : Access) (out : Outcome) (i : ℕ) (w : WindowDesc) : Type 0 where
   pub write_seen : out.window_we w ≡ (is_write a.kind && (is_accepted face target a && is_at target i))
   pub read_seen : out.window_re w ≡ takes_read face target a i
-  pub address_seen : out.window_address w ≡ a.address
+  pub address_seen : out.window_address w ≡ bits 32 a.address
   pub data_seen : out.window_data w ≡ a.data_in
   pub strobes_seen : out.window_strobes w ≡ a.strobes
 

@@ -1,3 +1,4 @@
 pub mod AccessTable
 pub mod Target
 pub mod BlockStep
+pub mod Laid

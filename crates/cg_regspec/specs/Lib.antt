@@ -1,0 +1,4 @@
+pub mod NetNames
+pub mod RegisterModule
+pub mod Meaning
+pub mod Laws

@@ -1,0 +1,78 @@
+-- What a register module means: its step is the step of the block's interface.
+use Rattle.std.specs.Prelude.{◌≡◌, ℕ, ◌+◌, ◌^◌, ◌<◌, Bool, true, false, not, cond, List, [], ◌∷◌}
+use Rattle.cg_svspec.specs.Bits.{Bits, bits}
+use Rattle.cg_svspec.specs.Tree.{Module}
+use Rattle.cg_svspec.specs.Value.{Values, Valuation, HasWidths, IsReset}
+use Rattle.cg_svspec.specs.WellFormed.{WellFormed}
+use Rattle.cg_svspec.specs.Register.{IsRegister}
+use Rattle.cg_desc.specs.Target.{target_at}
+use Rattle.cg_desc.specs.BlockStep.{Access, is_read, is_write, Fields, Hardware, Outcome, BlockStep, EachField, EachRow, Where}
+use Rattle.cg_desc.specs.declared.block.FieldDesc.{FieldDesc}
+use Rattle.cg_desc.specs.declared.block.RegDesc.{RegDesc}
+use Rattle.cg_desc.specs.declared.block.Item.{Item}
+use Rattle.cg_desc.specs.declared.block.Item.TheVariants.{Reg, Window, SkipTo, Reserved}
+use Rattle.cg_desc.specs.declared.block.LaidFace.{LaidFace}
+use Rattle.cg_regspec.specs.NetNames.{reg_we, reg_re, reg_addr, reg_wdata, reg_be, reg_rdata, reg_error, state_net, q_net, qe_net, re_net, d_net, de_net, window_we, window_re, window_addr, window_wdata, window_be, window_rdata}
+use Rattle.cg_regspec.specs.RegisterModule.{width_of}
+
+-- the bit of a net of width 1
+abbrev pub bit_of : Bits → Bool
+bit_of [] = false
+bit_of (b ∷ bs) = b
+
+-- the module's inputs carry the access
+pub record Carries (inputs : Values) (a : Access) : Type 0 where
+  pub we : inputs reg_we ≡ is_write a.kind ∷ []
+  pub re : inputs reg_re ≡ is_read a.kind ∷ []
+  pub address : inputs reg_addr ≡ bits 32 a.address
+  pub data_in : inputs reg_wdata ≡ a.data_in
+  pub strobes : inputs reg_be ≡ a.strobes
+  pub small : a.address < 2 ^ 32
+
+-- the stored fields' values, as the states have them
+abbrev pub fields_in : Values → Fields
+fields_in state = λ r f. state (state_net r f)
+
+-- what hardware brings, as the inputs have it
+abbrev pub hardware_in : Values → Hardware
+hardware_in inputs = record {
+  d = λ r f. inputs (d_net r f);
+  de = λ r f. bit_of (inputs (de_net r f));
+  read_data = λ w. inputs (window_rdata w);
+}
+
+-- what comes of a clock, as the nets and the next states have it
+abbrev pub outcome_in : Values → Values → Outcome
+outcome_in v next = record {
+  has_error = bit_of (v reg_error);
+  data_out = v reg_rdata;
+  next = λ r f. next (state_net r f);
+  q = λ r f. v (q_net r f);
+  qe = λ r f. bit_of (v (qe_net r f));
+  re = λ r f. bit_of (v (re_net r f));
+  window_we = λ w. bit_of (v (window_we w));
+  window_re = λ w. bit_of (v (window_re w));
+  window_address = λ w. v (window_addr w);
+  window_data = λ w. v (window_wdata w);
+  window_strobes = λ w. v (window_be w);
+}
+
+-- each stored field has its reset value
+abbrev pub ItemIsReset : Values → ℕ → Item → Type 0
+ItemIsReset state i (Reg r) = Where (not r.hwext) (EachField (λ f. state (state_net r f) ≡ bits (width_of f) f.resval) r.fields)
+ItemIsReset state i item = Unit {0}
+
+abbrev pub FieldsAreReset : LaidFace → Values → Type 0
+FieldsAreReset face state = EachRow (ItemIsReset state) 0 face.rows
+
+-- The module acts as the register block of the interface. It is a well-formed register module, its states at reset are the fields'
+-- reset values, it has a valuation for all inputs and states of their widths, and each of its valuations is the block's step at what
+-- the address is, for every access at every address of 32 bits.
+pub record RegisterMeans (m : Module) (face : LaidFace) : Type 0 where
+  pub well_formed : WellFormed m
+  pub is_register : IsRegister m
+  pub resets : (state : Values) → IsReset m state → FieldsAreReset face state
+  pub has_reset : (state : Values) → FieldsAreReset face state → IsReset m state
+  pub has_valuation : (inputs state : Values) → HasWidths m inputs state → (v : Values) × (next : Values) × Valuation m inputs state v next
+  pub steps : (inputs state v next : Values) (a : Access) → HasWidths m inputs state → Carries inputs a → Valuation m inputs state v next
+      → BlockStep face (target_at face a.address) a (fields_in state) (hardware_in inputs) (outcome_in v next)

@@ -1,0 +1,300 @@
+-- The register module of a laid interface: ports and entries in their order and spelling.
+use Rattle.std.specs.Prelude.{ℕ, zero, suc, ◌+◌, ◌-◌, ◌*◌, ◌/◌, ◌^◌, eqb, leb, Bool, true, false, not, ◌&&◌, cond, List, [], ◌∷◌, ◌++◌, codes, Option, Some, None}
+use Rattle.cg_svspec.specs.Tree.{Expression, net, cut, lit, cat, inv, any, and, or, equal, pick, Expressions, none, more, Port, Parameter, Connection, Entry, wire, drive, assign, inst, Module}
+use Rattle.cg_svspec.specs.Register.{access_ports, input_port, output_port}
+use Rattle.cg_svspec.specs.Value.{flop_name}
+use Rattle.cg_desc.specs.AccessTable.{is_readable, is_writable, hardware_writes}
+use Rattle.cg_desc.specs.BlockStep.{needed_bytes, is_read_only, is_write_only, register_named, shows_q, shows_qe, shows_re}
+use Rattle.cg_desc.specs.declared.block.SwAccess.{SwAccess}
+use Rattle.cg_desc.specs.declared.block.SwAccess.TheVariants.{Ro, Rc, Rw, R0w1c, Rw1s, Rw1c, Rw0c, Wo, Nothing}
+use Rattle.cg_desc.specs.declared.block.FieldDesc.{FieldDesc}
+use Rattle.cg_desc.specs.declared.block.RegDesc.{RegDesc}
+use Rattle.cg_desc.specs.declared.block.WindowDesc.{WindowDesc}
+use Rattle.cg_desc.specs.declared.block.Item.{Item}
+use Rattle.cg_desc.specs.declared.block.Item.TheVariants.{Reg, Window, SkipTo, Reserved}
+use Rattle.cg_desc.specs.declared.block.LaidRow.{LaidRow}
+use Rattle.cg_desc.specs.declared.block.LaidFace.{LaidFace}
+use Rattle.cg_regspec.specs.NetNames.{reg_we, reg_re, reg_addr, reg_wdata, reg_be, reg_rdata, reg_error, hit_any, wbad_any, rbad_any, hit, wbad, rbad, we, re, rd, state_net, hold_net, next_net, q_net, qe_net, re_net, d_net, de_net, flop_instance, window_we, window_re, window_addr, window_wdata, window_be, window_rdata}
+
+-- ---- ports
+
+abbrev pub width_of : FieldDesc → ℕ
+width_of f = suc f.msb - f.lsb
+
+-- a port where the test holds
+abbrev pub port_if : Bool → Port → List Port → List Port
+port_if b p ps = cond b (p ∷ ps) ps
+
+-- hardware brings a value for the field: for a stored one where it writes, for an external one where software reads
+abbrev pub takes_d : RegDesc → FieldDesc → Bool
+takes_d r f = cond r.hwext (is_readable f.sw) (hardware_writes f.hw)
+
+-- hardware brings a strobe for it
+abbrev pub takes_de : RegDesc → FieldDesc → Bool
+takes_de r f = cond r.hwext false (hardware_writes f.hw)
+
+abbrev pub field_ports : RegDesc → FieldDesc → List Port → List Port
+field_ports r f later =
+    port_if (shows_q r f) (output_port (width_of f) (q_net r f))
+    (port_if (shows_qe r f) (output_port 1 (qe_net r f))
+    (port_if (shows_re r f) (output_port 1 (re_net r f))
+    (port_if (takes_d r f) (input_port (width_of f) (d_net r f))
+    (port_if (takes_de r f) (input_port 1 (de_net r f)) later))))
+
+abbrev pub fields_ports : RegDesc → List FieldDesc → List Port → List Port
+fields_ports r [] later = later
+fields_ports r (f ∷ fs) later = field_ports r f (fields_ports r fs later)
+
+abbrev pub window_ports : WindowDesc → List Port → List Port
+window_ports w later =
+    output_port 1 (window_we w) ∷ output_port 1 (window_re w) ∷ output_port 32 (window_addr w) ∷ output_port 32 (window_wdata w)
+    ∷ output_port 4 (window_be w) ∷ input_port 32 (window_rdata w) ∷ later
+
+abbrev pub item_ports : Item → List Port → List Port
+item_ports (Reg r) later = fields_ports r r.fields later
+item_ports (Window w) later = window_ports w later
+item_ports (SkipTo to at) later = later
+item_ports (Reserved words at) later = later
+
+abbrev pub rows_ports : List LaidRow → List Port
+rows_ports [] = []
+rows_ports (row ∷ rows) = item_ports row.item (rows_ports rows)
+
+-- ---- 1: the stored fields
+
+abbrev pub states_of : RegDesc → List FieldDesc → List Entry → List Entry
+states_of r [] later = later
+states_of r (f ∷ fs) later = wire (width_of f) (state_net r f) ∷ states_of r fs later
+
+abbrev pub item_states : Item → List Entry → List Entry
+item_states (Reg r) later = cond r.hwext later (states_of r r.fields later)
+item_states (Window w) later = later
+item_states (SkipTo to at) later = later
+item_states (Reserved words at) later = later
+
+abbrev pub rows_states : List LaidRow → List Entry
+rows_states [] = []
+rows_states (row ∷ rows) = item_states row.item (rows_states rows)
+
+-- ---- 2: the rows
+
+-- bits msb down to lsb of a net of this width: the bare name where all its bits are meant
+abbrev pub slice : List ℕ → ℕ → ℕ → ℕ → Expression
+slice n width msb lsb = cond (eqb lsb 0 && eqb (suc msb) width) (net n) (cut n msb lsb)
+
+-- One term for each set bit of `items` below `bits`, the highest first; `at` is the first word that is left.
+abbrev pub window_terms : ℕ → ℕ → ℕ → Expressions
+window_terms zero items at = none
+window_terms (suc b) items at =
+    cond (leb (2 ^ b) items)
+    (more (equal (cut reg_addr 31 (b + 2)) (lit (30 - b) (at / 2 ^ b))) (window_terms b (items - 2 ^ b) (at + 2 ^ b)))
+    (window_terms b items at)
+
+-- the address is in the row
+abbrev pub hit_of : LaidRow → Item → Expression
+hit_of row (Reg r) = equal (cut reg_addr 31 2) (lit 30 (row.first / 4))
+hit_of row (Window w) = any (cat (window_terms 23 w.items (row.first / 4)))
+hit_of row item = lit 1 0
+
+-- some needed byte is not strobed
+abbrev pub lacks_strobe : ℕ → Expression
+lacks_strobe bytes = any (inv (slice reg_be 4 (bytes - 1) 0))
+
+abbrev pub write_refused : Item → Expression
+write_refused (Reg r) = lacks_strobe (needed_bytes r)
+write_refused (Window w) = cond (is_read_only w.sw) (lit 1 1) (cond w.byte_write (lit 1 0) (lacks_strobe 4))
+write_refused item = lit 1 0
+
+abbrev pub read_refused : Item → Expression
+read_refused (Window w) = cond (is_write_only w.sw) (lit 1 1) (lit 1 0)
+read_refused item = lit 1 0
+
+-- the net of a gate's field: the first one of the register of that name
+abbrev pub gate_net : Option RegDesc → Option (List ℕ)
+gate_net None = None
+gate_net (Some g) = first_state g.fields where
+  first_state : List FieldDesc → Option (List ℕ)
+  first_state [] = None
+  first_state (f ∷ fs) = Some (state_net g f)
+
+abbrev pub gated : Expression → Option (List ℕ) → Expression
+gated x None = x
+gated x (Some g) = and x (net g)
+
+-- the gate of a register, if it has one
+abbrev pub gate_of : LaidFace → Option (List ℕ) → Option (List ℕ)
+gate_of face None = None
+gate_of face (Some name) = gate_net (register_named face.rows name)
+
+abbrev pub item_gate : LaidFace → Item → Option (List ℕ)
+item_gate face (Reg r) = gate_of face r.regwen
+item_gate face item = None
+
+-- zeros, where there is at least one
+abbrev pub gap : ℕ → Expressions → Expressions
+gap zero below = below
+gap (suc w) below = more (lit (suc w) 0) below
+
+-- a field's part of its register's word
+abbrev pub shown_part : RegDesc → FieldDesc → Expression
+shown_part r f = cond (is_readable f.sw) (net (cond r.hwext (d_net r f) (state_net r f))) (lit (width_of f) 0)
+
+-- The parts of a register's word from bit 31 down: `from` is the first bit that is left, and `below` what stands under it.
+abbrev pub word_parts : RegDesc → ℕ → Expressions → List FieldDesc → Expressions
+word_parts r from below [] = gap (32 - from) below
+word_parts r from below (f ∷ fs) = word_parts r (suc f.msb) (more (shown_part r f) (gap (f.lsb - from) below)) fs
+
+abbrev pub item_word_text : Item → Expression
+item_word_text (Reg r) = cat (word_parts r 0 none r.fields)
+item_word_text (Window w) = net (window_rdata w)
+item_word_text item = lit 32 (2 ^ 32 - 1)
+
+-- the wires of row i, `before` being what is read where no row from i on is hit
+abbrev pub row_entries : LaidFace → ℕ → Expression → LaidRow → List Entry → List Entry
+row_entries face i before row later =
+    drive 1 (hit i) (hit_of row row.item)
+    ∷ drive 1 (wbad i) (and (net (hit i)) (write_refused row.item))
+    ∷ drive 1 (rbad i) (and (net (hit i)) (read_refused row.item))
+    ∷ drive 1 (we i) (gated (and (and (net reg_we) (net (hit i))) (inv (net (wbad i)))) (item_gate face row.item))
+    ∷ drive 1 (re i) (and (and (net reg_re) (net (hit i))) (inv (net (rbad i))))
+    ∷ drive 32 (rd i) (pick (net (hit i)) (item_word_text row.item) before)
+    ∷ later
+
+abbrev pub rows_entries : LaidFace → ℕ → Expression → List LaidRow → List Entry
+rows_entries face i before [] = []
+rows_entries face i before (row ∷ rows) = row_entries face i before row (rows_entries face (i + 1) (net (rd i)) rows)
+
+-- ---- 3: the answer
+
+abbrev pub all_ones : Expression
+all_ones = lit 32 (2 ^ 32 - 1)
+
+-- what the last row reads
+abbrev pub last_rd : ℕ → Expression → List LaidRow → Expression
+last_rd i before [] = before
+last_rd i before (row ∷ rows) = last_rd (i + 1) (net (rd i)) rows
+
+-- the nets of the rows, the highest row first
+abbrev pub highest_first : (ℕ → List ℕ) → ℕ → Expressions → List LaidRow → Expressions
+highest_first name i below [] = below
+highest_first name i below (row ∷ rows) = highest_first name (i + 1) (more (net (name i)) below) rows
+
+-- nothing is hit, or what is hit refuses
+abbrev pub refused : List ℕ → Expression
+refused bad = or (inv (net hit_any)) (net bad)
+
+abbrev pub answer_entries : List LaidRow → List Entry
+answer_entries rows =
+    drive 1 hit_any (any (cat (highest_first hit 0 none rows)))
+    ∷ drive 1 wbad_any (any (cat (highest_first wbad 0 none rows)))
+    ∷ drive 1 rbad_any (any (cat (highest_first rbad 0 none rows)))
+    ∷ assign reg_error (or (and (net reg_we) (refused wbad_any)) (and (net reg_re) (refused rbad_any)))
+    ∷ assign reg_rdata (pick (net reg_error) all_ones (last_rd 0 all_ones rows))
+    ∷ []
+
+-- ---- 4: the fields, then the windows
+
+-- the field's bits of the write data
+abbrev pub written_bits : FieldDesc → Expression
+written_bits f = slice reg_wdata 32 f.msb f.lsb
+
+abbrev pub zero_bits : ℕ → Expression
+zero_bits w = lit w 0
+
+abbrev pub one_bits : ℕ → Expression
+one_bits w = lit w (2 ^ w - 1)
+
+-- the field's next value in row i, over the value after hardware
+abbrev pub next_of : SwAccess → ℕ → Expression → Expression → ℕ → Expression
+next_of Rw i data_in h w = pick (net (we i)) data_in h
+next_of Wo i data_in h w = pick (net (we i)) data_in h
+next_of Ro i data_in h w = h
+next_of Nothing i data_in h w = h
+next_of Rw1s i data_in h w = or h (pick (net (we i)) data_in (zero_bits w))
+next_of Rw1c i data_in h w = and h (pick (net (we i)) (inv data_in) (one_bits w))
+next_of R0w1c i data_in h w = and h (pick (net (we i)) (inv data_in) (one_bits w))
+next_of Rw0c i data_in h w = and h (pick (net (we i)) data_in (one_bits w))
+next_of Rc i data_in h w = pick (net (re i)) (zero_bits w) h
+
+abbrev pub hold_of : RegDesc → FieldDesc → Expression
+hold_of r f = cond (hardware_writes f.hw) (pick (net (de_net r f)) (net (d_net r f)) (net (state_net r f))) (net (state_net r f))
+
+abbrev pub entry_if : Bool → Entry → List Entry → List Entry
+entry_if b e es = cond b (e ∷ es) es
+
+-- the assigns of the field's outputs
+abbrev pub field_views : ℕ → RegDesc → FieldDesc → List Entry → List Entry
+field_views i r f later =
+    entry_if (shows_q r f) (assign (q_net r f) (cond r.hwext (written_bits f) (net (state_net r f))))
+    (entry_if (shows_qe r f) (assign (qe_net r f) (net (we i)))
+    (entry_if (shows_re r f) (assign (re_net r f) (net (re i))) later))
+
+abbrev pub field_entries : ℕ → RegDesc → FieldDesc → List Entry → List Entry
+field_entries i r f later =
+    cond r.hwext (field_views i r f later)
+    (drive (width_of f) (hold_net r f) (hold_of r f)
+    ∷ drive (width_of f) (next_net r f) (next_of f.sw i (written_bits f) (net (hold_net r f)) (width_of f))
+    ∷ field_views i r f later)
+
+abbrev pub fields_entries : ℕ → RegDesc → List FieldDesc → List Entry → List Entry
+fields_entries i r [] later = later
+fields_entries i r (f ∷ fs) later = field_entries i r f (fields_entries i r fs later)
+
+abbrev pub item_fields : ℕ → Item → List Entry → List Entry
+item_fields i (Reg r) later = fields_entries i r r.fields later
+item_fields i item later = later
+
+abbrev pub rows_fields : ℕ → List LaidRow → List Entry
+rows_fields i [] = []
+rows_fields i (row ∷ rows) = item_fields i row.item (rows_fields (i + 1) rows)
+
+abbrev pub item_windows : ℕ → Item → List Entry → List Entry
+item_windows i (Window w) later =
+    assign (window_we w) (net (we i)) ∷ assign (window_re w) (net (re i)) ∷ assign (window_addr w) (net reg_addr)
+    ∷ assign (window_wdata w) (net reg_wdata) ∷ assign (window_be w) (net reg_be) ∷ later
+item_windows i item later = later
+
+abbrev pub rows_windows : ℕ → List LaidRow → List Entry
+rows_windows i [] = []
+rows_windows i (row ∷ rows) = item_windows i row.item (rows_windows (i + 1) rows)
+
+-- ---- 5: the flip-flops
+
+abbrev pub parameter : List ℕ → Expression → Parameter
+parameter n x = record { name = n; value = x }
+
+abbrev pub connection : List ℕ → Expression → Connection
+connection n x = record { name = n; value = x }
+
+abbrev pub flop_of : RegDesc → FieldDesc → Entry
+flop_of r f =
+    inst flop_name (parameter (codes "Width") (lit 0 (width_of f)) ∷ parameter (codes "ResetValue") (lit (width_of f) f.resval) ∷ []) (flop_instance r f)
+    (connection (codes "clk_i") (net (codes "clk_i")) ∷ connection (codes "rst_ni") (net (codes "rst_ni"))
+    ∷ connection (codes "d_i") (net (next_net r f)) ∷ connection (codes "q_o") (net (state_net r f)) ∷ [])
+
+abbrev pub flops_of : RegDesc → List FieldDesc → List Entry → List Entry
+flops_of r [] later = later
+flops_of r (f ∷ fs) later = flop_of r f ∷ flops_of r fs later
+
+abbrev pub item_flops : Item → List Entry → List Entry
+item_flops (Reg r) later = cond r.hwext later (flops_of r r.fields later)
+item_flops item later = later
+
+abbrev pub rows_flops : List LaidRow → List Entry
+rows_flops [] = []
+rows_flops (row ∷ rows) = item_flops row.item (rows_flops rows)
+
+-- ---- the whole
+
+abbrev pub register_entries : LaidFace → List Entry
+register_entries face =
+    rows_states face.rows ++ (rows_entries face 0 all_ones face.rows ++ (answer_entries face.rows ++ (rows_fields 0 face.rows ++ (rows_windows 0 face.rows ++ rows_flops face.rows))))
+
+-- the register module of this name
+unfoldable pub register_module : List ℕ → LaidFace → Module
+register_module name face = record { name = name; ports = access_ports ++ rows_ports face.rows; entries = register_entries face }
+
+-- its name: `<block>_reg_top`, or `<block>_<interface>_reg_top` for a named interface
+abbrev pub register_module_name : List ℕ → Option (List ℕ) → List ℕ
+register_module_name block None = block ++ codes "_reg_top"
+register_module_name block (Some interface) = block ++ (codes "_" ++ (interface ++ codes "_reg_top"))
