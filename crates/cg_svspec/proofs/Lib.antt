@@ -1,3 +1,5 @@
 pub mod Runs
 pub mod Numerals
 pub mod Longest
+pub mod Pieces
+pub mod PrintedExpressions
