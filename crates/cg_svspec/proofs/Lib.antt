@@ -3,3 +3,4 @@ pub mod Numerals
 pub mod Longest
 pub mod Pieces
 pub mod PrintedExpressions
+pub mod PrintedModules

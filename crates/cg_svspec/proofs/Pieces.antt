@@ -1,7 +1,9 @@
 -- Putting one piece before a text that reads to tokens.
-use Rattle.std.proofs.Common.{◌≡◌, ℕ, eqb, Bool, true, false, List, [], ◌∷◌, ◌++◌, refl, ap, sym, subst, ◌∙◌, append_assoc, codes}
-use Rattle.cg_svspec.specs.Characters.{is_mark, is_blank, Each, IsWord}
-use Rattle.cg_svspec.specs.Tokens.{Token, word, num, lit, mark, equals, IsToken, spelling, IsLongest, Piece, token, blank, line, shown, shown_all, is_inside_line, EndsLine, ReadsTo}
+use Rattle.std.proofs.Common.{◌≡◌, ℕ, eqb, Bool, true, false, ◌&&◌, List, [], ◌∷◌, ◌++◌, refl, ap, sym, subst, ◌∙◌, append_assoc, codes}
+use Rattle.std.specs.List.{list_all}
+use Rattle.cg_svspec.specs.Characters.{is_first, is_name_character, is_mark, is_blank, IsWord}
+use Rattle.cg_svspec.specs.Tokens.{Token, word, mark, equals, IsToken, spelling, IsLongest, token, blank, line, shown_all, is_inside_line, EndsLine, ReadsTo}
+use Rattle.cg_svspec.proofs.Runs.{both_pass, each_passes}
 use Rattle.cg_svspec.proofs.Longest.{Apart, apart_at, word_longest, mark_longest, assign_longest, equals_longest}
 
 -- a token
@@ -18,12 +20,12 @@ pub skip : (c : ℕ) {more : List ℕ} {us : List Token} {tail : List ℕ} → i
 skip c is r = record { pieces = blank c ∷ r.pieces; whole = ap (λ z. c ∷ z) r.whole; in_order = r.in_order; each = (is, r.each) }
 
 -- a comment up to a line's end
-pub remark : (body more : List ℕ) (us : List Token) (tail : List ℕ) → Each is_inside_line body → ReadsTo (10 ∷ more) us tail → ReadsTo (codes "//" ++ (body ++ 10 ∷ more)) us tail
+pub remark : (body more : List ℕ) (us : List Token) (tail : List ℕ) → list_all is_inside_line body ≡ true → ReadsTo (10 ∷ more) us tail → ReadsTo (codes "//" ++ (body ++ 10 ∷ more)) us tail
 remark body more us tail inside r = record {
   pieces = line body ∷ r.pieces;
   whole = ap (λ z. codes "//" ++ (body ++ z)) r.whole ∙ sym (append_assoc (codes "//" ++ body) (shown_all r.pieces) tail);
   in_order = r.in_order;
-  each = (inside, subst EndsLine r.whole refl, r.each);
+  each = (each_passes is_inside_line body inside, subst EndsLine r.whole refl, r.each);
 }
 
 pub space : {more : List ℕ} {us : List Token} {tail : List ℕ} → ReadsTo more us tail → ReadsTo (32 ∷ more) us tail
@@ -47,6 +49,20 @@ twice r = add equals _ _ _ tt (equals_longest _) r
 -- a word
 pub named : (w : List ℕ) {more : List ℕ} {us : List Token} {tail : List ℕ} → IsWord w → Apart more → ReadsTo more us tail → ReadsTo (w ++ more) (word w ∷ us) tail
 named w is apart r = add (word w) _ _ _ is (word_longest w _ is apart) r
+
+-- whether the text is a word, which computes at a text that is written out
+abbrev pub is_word : List ℕ → Bool
+is_word [] = false
+is_word (c ∷ cs) = is_first c && list_all is_name_character cs
+
+-- so it is one
+pub spelled : (w : List ℕ) → is_word w ≡ true → IsWord w
+spelled [] h = cc
+spelled (c ∷ cs) h = let both = both_pass (is_first c) (list_all is_name_character cs) h in (both.0, each_passes is_name_character cs both.1)
+
+-- a word that is written out
+pub quoted : (w : List ℕ) {more : List ℕ} {us : List Token} {tail : List ℕ} → is_word w ≡ true → Apart more → ReadsTo more us tail → ReadsTo (w ++ more) (word w ∷ us) tail
+quoted w is apart r = named w (spelled w is) apart r
 
 -- nothing is read of what is left
 pub finish : (tail : List ℕ) → ReadsTo tail [] tail

@@ -1,11 +1,11 @@
 -- The text of an expression reads to the expression's tokens.
-use Rattle.std.proofs.Common.{◌≡◌, ℕ, ◌<◌, ◌≤◌, ◌^◌, eqb, cond, Bool, true, false, List, [], ◌∷◌, ◌++◌, refl, append_assoc, codes}
+use Rattle.std.proofs.Common.{ℕ, ◌<◌, ◌^◌, eqb, cond, Bool, true, false, List, ◌∷◌, ◌++◌, refl, append_assoc, codes}
 use Rattle.std.specs.Fmt.{decimal, digits}
-use Rattle.cg_svspec.specs.Tokens.{Token, word, num, lit, mark, equals, ReadsTo}
+use Rattle.cg_svspec.specs.Tokens.{Token, num, lit, ReadsTo}
 use Rattle.cg_svspec.specs.Tree as tree
 use Rattle.cg_svspec.specs.Tree.{Expression, Expressions}
 use Rattle.cg_svspec.specs.Layout.{expression_text, parts_text, value_text}
-use Rattle.cg_svspec.specs.Grammar.{expression_tokens, parts_tokens, rest_tokens, value_tokens}
+use Rattle.cg_svspec.specs.Grammar.{expression_tokens, rest_tokens, value_tokens}
 use Rattle.cg_svspec.specs.Printable.{IsLiteral, IsPrintableExpression, ArePrintable, IsNumberOrLiteral}
 use Rattle.cg_svspec.proofs.Longest.{Apart, num_longest, lit_longest}
 use Rattle.cg_svspec.proofs.Pieces

@@ -1,11 +1,22 @@
 -- Runs of characters of one kind, and what stands behind them.
-use Rattle.std.proofs.Common.{◌≡◌, ℕ, ◌+◌, ◌<◌, ◌≤◌, Bool, true, false, List, [], ◌∷◌, ◌++◌, length, refl, ap, sym, subst, arith}
+use Rattle.std.proofs.Common.{◌≡◌, ℕ, ◌<◌, ◌≤◌, Bool, true, false, ◌&&◌, List, [], ◌∷◌, ◌++◌, length, refl, ap, sym, subst, arith}
+use Rattle.std.specs.List.{list_all}
 use Rattle.cg_svspec.specs.Characters.{Each}
 
 -- the text does not go on with such a character
 abbrev pub StartsNot : (ℕ → Bool) → List ℕ → Type 0
 StartsNot p [] = Unit {0}
 StartsNot p (c ∷ cs) = p c ≡ false
+
+-- both tests pass where their conjunction does
+pub both_pass : (a b : Bool) → (a && b) ≡ true → (a ≡ true) × (b ≡ true)
+both_pass true b h = (refl, h)
+both_pass false b h = cc
+
+-- each character passes where the test of them all does, which computes at a text that is written out
+pub each_passes : (p : ℕ → Bool) (xs : List ℕ) → list_all p xs ≡ true → Each p xs
+each_passes p [] h = tt
+each_passes p (x ∷ xs) h = let both = both_pass (p x) (list_all p xs) h in (both.0, each_passes p xs both.1)
 
 -- equal texts begin with equal characters
 pub same_first : (c d : ℕ) (xs ys : List ℕ) → c ∷ xs ≡ d ∷ ys → c ≡ d
