@@ -1,0 +1,6 @@
+pub mod Runs
+pub mod Numerals
+pub mod Longest
+pub mod Pieces
+pub mod PrintedExpressions
+pub mod PrintedModules

@@ -1,6 +1,6 @@
 -- A module is printable where it is a tree of the grammar: every name, number, width, literal and depth is within its rule,
 -- a parameter's value is a literal or a plain number, and no list of which the grammar needs one member is empty.
-use Rattle.std.specs.Prelude.{ℕ, suc, max, ◌+◌, eqb, cond, ◌<◌, ◌≤◌, ◌^◌, List, [], ◌∷◌}
+use Rattle.std.specs.Prelude.{ℕ, suc, max, eqb, cond, ◌<◌, ◌≤◌, ◌^◌, List, [], ◌∷◌}
 use Rattle.cg_svspec.specs.Characters.{IsName}
 use Rattle.cg_svspec.specs.Tree.{Expression, net, cut, lit, cat, inv, any, and, or, equal, pick, Expressions, none, more, Port, Parameter, Connection, Entry, wire, drive, assign, inst, Module}
 
