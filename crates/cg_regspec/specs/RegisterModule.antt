@@ -22,8 +22,8 @@ abbrev pub width_of : FieldDesc → ℕ
 width_of f = suc f.msb - f.lsb
 
 -- a port where the test holds
-abbrev pub port_if : Bool → Port → List Port → List Port
-port_if b p ps = cond b (p ∷ ps) ps
+abbrev pub port_if : Bool → Port → List Port
+port_if b p = cond b (p ∷ []) []
 
 -- hardware brings a value for the field: for a stored one where it writes, for an external one where software reads
 abbrev pub takes_d : RegDesc → FieldDesc → Bool
@@ -33,48 +33,48 @@ takes_d r f = cond r.hwext (is_readable f.sw) (hardware_writes f.hw)
 abbrev pub takes_de : RegDesc → FieldDesc → Bool
 takes_de r f = cond r.hwext false (hardware_writes f.hw)
 
-abbrev pub field_ports : RegDesc → FieldDesc → List Port → List Port
-field_ports r f later =
+abbrev pub field_ports : RegDesc → FieldDesc → List Port
+field_ports r f =
     port_if (shows_q r f) (output_port (width_of f) (q_net r f))
-    (port_if (shows_qe r f) (output_port 1 (qe_net r f))
-    (port_if (shows_re r f) (output_port 1 (re_net r f))
-    (port_if (takes_d r f) (input_port (width_of f) (d_net r f))
-    (port_if (takes_de r f) (input_port 1 (de_net r f)) later))))
+    ++ (port_if (shows_qe r f) (output_port 1 (qe_net r f))
+    ++ (port_if (shows_re r f) (output_port 1 (re_net r f))
+    ++ (port_if (takes_d r f) (input_port (width_of f) (d_net r f))
+    ++ port_if (takes_de r f) (input_port 1 (de_net r f)))))
 
-abbrev pub fields_ports : RegDesc → List FieldDesc → List Port → List Port
-fields_ports r [] later = later
-fields_ports r (f ∷ fs) later = field_ports r f (fields_ports r fs later)
+abbrev pub fields_ports : RegDesc → List FieldDesc → List Port
+fields_ports r [] = []
+fields_ports r (f ∷ fs) = field_ports r f ++ fields_ports r fs
 
-abbrev pub window_ports : WindowDesc → List Port → List Port
-window_ports w later =
+abbrev pub window_ports : WindowDesc → List Port
+window_ports w =
     output_port 1 (window_we w) ∷ output_port 1 (window_re w) ∷ output_port 32 (window_addr w) ∷ output_port 32 (window_wdata w)
-    ∷ output_port 4 (window_be w) ∷ input_port 32 (window_rdata w) ∷ later
+    ∷ output_port 4 (window_be w) ∷ input_port 32 (window_rdata w) ∷ []
 
-abbrev pub item_ports : Item → List Port → List Port
-item_ports (Reg r) later = fields_ports r r.fields later
-item_ports (Window w) later = window_ports w later
-item_ports (SkipTo to at) later = later
-item_ports (Reserved words at) later = later
+abbrev pub item_ports : Item → List Port
+item_ports (Reg r) = fields_ports r r.fields
+item_ports (Window w) = window_ports w
+item_ports (SkipTo to at) = []
+item_ports (Reserved words at) = []
 
 abbrev pub rows_ports : List LaidRow → List Port
 rows_ports [] = []
-rows_ports (row ∷ rows) = item_ports row.item (rows_ports rows)
+rows_ports (row ∷ rows) = item_ports row.item ++ rows_ports rows
 
 -- ---- 1: the stored fields
 
-abbrev pub states_of : RegDesc → List FieldDesc → List Entry → List Entry
-states_of r [] later = later
-states_of r (f ∷ fs) later = wire (width_of f) (state_net r f) ∷ states_of r fs later
+abbrev pub states_of : RegDesc → List FieldDesc → List Entry
+states_of r [] = []
+states_of r (f ∷ fs) = wire (width_of f) (state_net r f) ∷ states_of r fs
 
-abbrev pub item_states : Item → List Entry → List Entry
-item_states (Reg r) later = cond r.hwext later (states_of r r.fields later)
-item_states (Window w) later = later
-item_states (SkipTo to at) later = later
-item_states (Reserved words at) later = later
+abbrev pub item_states : Item → List Entry
+item_states (Reg r) = cond r.hwext [] (states_of r r.fields)
+item_states (Window w) = []
+item_states (SkipTo to at) = []
+item_states (Reserved words at) = []
 
 abbrev pub rows_states : List LaidRow → List Entry
 rows_states [] = []
-rows_states (row ∷ rows) = item_states row.item (rows_states rows)
+rows_states (row ∷ rows) = item_states row.item ++ rows_states rows
 
 -- ---- 2: the rows
 
@@ -150,19 +150,19 @@ item_word_text (Window w) = net (window_rdata w)
 item_word_text item = lit 32 (2 ^ 32 - 1)
 
 -- the wires of row i, `before` being what is read where no row from i on is hit
-abbrev pub row_entries : LaidFace → ℕ → Expression → LaidRow → List Entry → List Entry
-row_entries face i before row later =
+abbrev pub row_entries : LaidFace → ℕ → Expression → LaidRow → List Entry
+row_entries face i before row =
     drive 1 (hit i) (hit_of row row.item)
     ∷ drive 1 (wbad i) (and (net (hit i)) (write_refused row.item))
     ∷ drive 1 (rbad i) (and (net (hit i)) (read_refused row.item))
     ∷ drive 1 (we i) (gated (and (and (net reg_we) (net (hit i))) (inv (net (wbad i)))) (item_gate face row.item))
     ∷ drive 1 (re i) (and (and (net reg_re) (net (hit i))) (inv (net (rbad i))))
     ∷ drive 32 (rd i) (pick (net (hit i)) (item_word_text row.item) before)
-    ∷ later
+    ∷ []
 
 abbrev pub rows_entries : LaidFace → ℕ → Expression → List LaidRow → List Entry
 rows_entries face i before [] = []
-rows_entries face i before (row ∷ rows) = row_entries face i before row (rows_entries face (i + 1) (net (rd i)) rows)
+rows_entries face i before (row ∷ rows) = row_entries face i before row ++ rows_entries face (i + 1) (net (rd i)) rows
 
 -- ---- 3: the answer
 
@@ -219,44 +219,46 @@ next_of Rc i data_in h w = pick (net (re i)) (zero_bits w) h
 abbrev pub hold_of : RegDesc → FieldDesc → Expression
 hold_of r f = cond (hardware_writes f.hw) (pick (net (de_net r f)) (net (d_net r f)) (net (state_net r f))) (net (state_net r f))
 
-abbrev pub entry_if : Bool → Entry → List Entry → List Entry
-entry_if b e es = cond b (e ∷ es) es
+-- an entry where the test holds
+abbrev pub entry_if : Bool → Entry → List Entry
+entry_if b e = cond b (e ∷ []) []
 
 -- the assigns of the field's outputs
-abbrev pub field_views : ℕ → RegDesc → FieldDesc → List Entry → List Entry
-field_views i r f later =
+abbrev pub field_views : ℕ → RegDesc → FieldDesc → List Entry
+field_views i r f =
     entry_if (shows_q r f) (assign (q_net r f) (cond r.hwext (written_bits f) (net (state_net r f))))
-    (entry_if (shows_qe r f) (assign (qe_net r f) (net (we i)))
-    (entry_if (shows_re r f) (assign (re_net r f) (net (re i))) later))
+    ++ (entry_if (shows_qe r f) (assign (qe_net r f) (net (we i)))
+    ++ entry_if (shows_re r f) (assign (re_net r f) (net (re i))))
 
-abbrev pub field_entries : ℕ → RegDesc → FieldDesc → List Entry → List Entry
-field_entries i r f later =
-    cond r.hwext (field_views i r f later)
-    (drive (width_of f) (hold_net r f) (hold_of r f)
-    ∷ drive (width_of f) (next_net r f) (next_of f.sw i (written_bits f) (net (hold_net r f)) (width_of f))
-    ∷ field_views i r f later)
+abbrev pub field_updates : ℕ → RegDesc → FieldDesc → List Entry
+field_updates i r f =
+    drive (width_of f) (hold_net r f) (hold_of r f)
+    ∷ drive (width_of f) (next_net r f) (next_of f.sw i (written_bits f) (net (hold_net r f)) (width_of f)) ∷ []
 
-abbrev pub fields_entries : ℕ → RegDesc → List FieldDesc → List Entry → List Entry
-fields_entries i r [] later = later
-fields_entries i r (f ∷ fs) later = field_entries i r f (fields_entries i r fs later)
+abbrev pub field_entries : ℕ → RegDesc → FieldDesc → List Entry
+field_entries i r f = cond r.hwext [] (field_updates i r f) ++ field_views i r f
 
-abbrev pub item_fields : ℕ → Item → List Entry → List Entry
-item_fields i (Reg r) later = fields_entries i r r.fields later
-item_fields i item later = later
+abbrev pub fields_entries : ℕ → RegDesc → List FieldDesc → List Entry
+fields_entries i r [] = []
+fields_entries i r (f ∷ fs) = field_entries i r f ++ fields_entries i r fs
+
+abbrev pub item_fields : ℕ → Item → List Entry
+item_fields i (Reg r) = fields_entries i r r.fields
+item_fields i item = []
 
 abbrev pub rows_fields : ℕ → List LaidRow → List Entry
 rows_fields i [] = []
-rows_fields i (row ∷ rows) = item_fields i row.item (rows_fields (i + 1) rows)
+rows_fields i (row ∷ rows) = item_fields i row.item ++ rows_fields (i + 1) rows
 
-abbrev pub item_windows : ℕ → Item → List Entry → List Entry
-item_windows i (Window w) later =
+abbrev pub item_windows : ℕ → Item → List Entry
+item_windows i (Window w) =
     assign (window_we w) (net (we i)) ∷ assign (window_re w) (net (re i)) ∷ assign (window_addr w) (net reg_addr)
-    ∷ assign (window_wdata w) (net reg_wdata) ∷ assign (window_be w) (net reg_be) ∷ later
-item_windows i item later = later
+    ∷ assign (window_wdata w) (net reg_wdata) ∷ assign (window_be w) (net reg_be) ∷ []
+item_windows i item = []
 
 abbrev pub rows_windows : ℕ → List LaidRow → List Entry
 rows_windows i [] = []
-rows_windows i (row ∷ rows) = item_windows i row.item (rows_windows (i + 1) rows)
+rows_windows i (row ∷ rows) = item_windows i row.item ++ rows_windows (i + 1) rows
 
 -- ---- 5: the flip-flops
 
@@ -272,17 +274,17 @@ flop_of r f =
     (connection (codes "clk_i") (net (codes "clk_i")) ∷ connection (codes "rst_ni") (net (codes "rst_ni"))
     ∷ connection (codes "d_i") (net (next_net r f)) ∷ connection (codes "q_o") (net (state_net r f)) ∷ [])
 
-abbrev pub flops_of : RegDesc → List FieldDesc → List Entry → List Entry
-flops_of r [] later = later
-flops_of r (f ∷ fs) later = flop_of r f ∷ flops_of r fs later
+abbrev pub flops_of : RegDesc → List FieldDesc → List Entry
+flops_of r [] = []
+flops_of r (f ∷ fs) = flop_of r f ∷ flops_of r fs
 
-abbrev pub item_flops : Item → List Entry → List Entry
-item_flops (Reg r) later = cond r.hwext later (flops_of r r.fields later)
-item_flops item later = later
+abbrev pub item_flops : Item → List Entry
+item_flops (Reg r) = cond r.hwext [] (flops_of r r.fields)
+item_flops item = []
 
 abbrev pub rows_flops : List LaidRow → List Entry
 rows_flops [] = []
-rows_flops (row ∷ rows) = item_flops row.item (rows_flops rows)
+rows_flops (row ∷ rows) = item_flops row.item ++ rows_flops rows
 
 -- ---- the whole
 
