@@ -121,14 +121,14 @@ abbrev pub gated : Expression → Option (List ℕ) → Expression
 gated x None = x
 gated x (Some g) = and x (net g)
 
--- the gate of a register, if it has one
-abbrev pub gate_of : LaidFace → Option (List ℕ) → Option (List ℕ)
-gate_of face None = None
-gate_of face (Some name) = gate_net (register_named face.rows name)
+-- the gate of a register among all rows, if it has one
+abbrev pub gate_of : List LaidRow → Option (List ℕ) → Option (List ℕ)
+gate_of all None = None
+gate_of all (Some name) = gate_net (register_named all name)
 
-abbrev pub item_gate : LaidFace → Item → Option (List ℕ)
-item_gate face (Reg r) = gate_of face r.regwen
-item_gate face item = None
+abbrev pub item_gate : List LaidRow → Item → Option (List ℕ)
+item_gate all (Reg r) = gate_of all r.regwen
+item_gate all item = None
 
 -- zeros, where there is at least one
 abbrev pub gap : ℕ → Expressions → Expressions
@@ -149,20 +149,20 @@ item_word_text (Reg r) = cat (word_parts r 0 none r.fields)
 item_word_text (Window w) = net (window_rdata w)
 item_word_text item = lit 32 (2 ^ 32 - 1)
 
--- the wires of row i, `before` being what is read where no row from i on is hit
-abbrev pub row_entries : LaidFace → ℕ → Expression → LaidRow → List Entry
-row_entries face i before row =
+-- the wires of row i among all rows, `before` being what is read where no row from i on is hit
+abbrev pub row_entries : List LaidRow → ℕ → Expression → LaidRow → List Entry
+row_entries all i before row =
     drive 1 (hit i) (hit_of row row.item)
     ∷ drive 1 (wbad i) (and (net (hit i)) (write_refused row.item))
     ∷ drive 1 (rbad i) (and (net (hit i)) (read_refused row.item))
-    ∷ drive 1 (we i) (gated (and (and (net reg_we) (net (hit i))) (inv (net (wbad i)))) (item_gate face row.item))
+    ∷ drive 1 (we i) (gated (and (and (net reg_we) (net (hit i))) (inv (net (wbad i)))) (item_gate all row.item))
     ∷ drive 1 (re i) (and (and (net reg_re) (net (hit i))) (inv (net (rbad i))))
     ∷ drive 32 (rd i) (pick (net (hit i)) (item_word_text row.item) before)
     ∷ []
 
-abbrev pub rows_entries : LaidFace → ℕ → Expression → List LaidRow → List Entry
-rows_entries face i before [] = []
-rows_entries face i before (row ∷ rows) = row_entries face i before row ++ rows_entries face (i + 1) (net (rd i)) rows
+abbrev pub rows_entries : List LaidRow → ℕ → Expression → List LaidRow → List Entry
+rows_entries all i before [] = []
+rows_entries all i before (row ∷ rows) = row_entries all i before row ++ rows_entries all (i + 1) (net (rd i)) rows
 
 -- ---- 3: the answer
 
@@ -290,7 +290,7 @@ rows_flops (row ∷ rows) = item_flops row.item ++ rows_flops rows
 
 abbrev pub register_entries : LaidFace → List Entry
 register_entries face =
-    rows_states face.rows ++ (rows_entries face 0 all_ones face.rows ++ (answer_entries face.rows ++ (rows_fields 0 face.rows ++ (rows_windows 0 face.rows ++ rows_flops face.rows))))
+    rows_states face.rows ++ (rows_entries face.rows 0 all_ones face.rows ++ (answer_entries face.rows ++ (rows_fields 0 face.rows ++ (rows_windows 0 face.rows ++ rows_flops face.rows))))
 
 -- the register module of this name
 unfoldable pub register_module : List ℕ → LaidFace → Module

@@ -1,0 +1,124 @@
+ghost use Rattle.std.specs.Prelude.{◌≡◌, ◌++◌, ◌<◌, ◌≤◌, ◌↔◌, [], ◌∷◌, map, codes, false, length, drop, IsTrue, OnOk, IfOk, IfSome, IfNone, MatchOption, None};
+ghost use Rattle.std.specs.Str.{str_to_ascii_lowercase};
+ghost use Rattle.cg_svspec.specs.Characters.{is_first, is_name_character, is_keyword, IsWord, IsName, Each};
+ghost use Rattle.cg_svspec.specs.Printable.{AllOf};
+ghost use Rattle.cg_gen.specs.Form.{is_blank, without_blanks, compact, register_text, registers_text, IsShortName, IsForm};
+ghost use Rattle.cg_gen.specs.FormReading.{strings_of, second, register_names, candidate};
+
+use cg_base::{List, Memory, Text};
+use std::alloc::Global;
+use std::str;
+
+/// A block of the form: its name, and the names of its registers.
+#[derive(Drop)]
+pub struct Form {
+    pub block: Text,
+    pub registers: List<Text>,
+}
+
+fn is_blank(byte: u8) -> bool
+    ensures { result ≡ is_blank byte }
+{
+    byte == b' ' || byte == b'\t' || byte == b'\n' || byte == b'\r'
+}
+
+/// The text without the blanks outside its strings.
+fn without_blanks(alloc: Global, text: &[u8]) -> Result<Vec<u8>, Memory>
+    ensures { IfOk result (λ v. v.items ≡ without_blanks false text.now) }
+{
+    let mut kept = Vec::new(alloc);
+    let mut inside = false;
+    for byte in text {
+        if inside || !is_blank(*byte) {
+            kept.push(*byte)?;
+        }
+        if *byte == b'"' {
+            inside = !inside;
+        }
+    }
+    Ok(kept)
+}
+
+/// The strings of the text, without their quotes.
+#[tactic(auto, unfolding(crate::specs::FormReading::strings_from))]
+fn strings(alloc: Global, text: &[u8]) -> Result<List<List<u8>>, Memory>
+    ensures { IfOk result (λ found. found ≡ strings_of text.now) }
+{
+    let mut found = List::new(alloc);
+    let mut read = List::new(alloc);
+    let mut inside = false;
+    for byte in text {
+        if !inside {
+            inside = *byte == b'"';
+            read = List::new(alloc);
+        } else if *byte == b'"' {
+            found.push(read)?;
+            read = List::new(alloc);
+            inside = false;
+        } else {
+            read.push(*byte)?;
+        }
+    }
+    Ok(found)
+}
+
+fn is_first(byte: u8) -> bool
+    ensures { result ≡ is_first byte }
+{
+    byte.is_ascii_lowercase() || byte.is_ascii_uppercase() || byte == b'_'
+}
+
+fn is_name_character(byte: u8) -> bool
+    ensures { result ≡ is_name_character byte }
+{
+    is_first(byte) || byte.is_ascii_digit()
+}
+
+/// Whether the bytes are a letter or an underscore, then letters, digits and underscores.
+fn is_word(bytes: &[u8]) -> bool
+    ensures { IsTrue result ↔ IsWord bytes.now }
+{
+    let [first, rest @ ..] = bytes else {
+        return false;
+    };
+    is_first(*first) && are_name_characters(rest)
+}
+
+fn are_name_characters(bytes: &[u8]) -> bool
+    ensures { IsTrue result ↔ Each is_name_character bytes.now }
+{
+    for byte in bytes {
+        if !is_name_character(*byte) {
+            return false;
+        }
+    }
+    true
+}
+
+fn is_keyword(word: &str) -> bool
+    ensures { result ≡ is_keyword word.now }
+{
+    word == "module"
+        || word == "endmodule"
+        || word == "input"
+        || word == "output"
+        || word == "wire"
+        || word == "assign"
+}
+
+/// The bytes as a name of at most 40 characters, `None` where they are none.
+fn short_name(alloc: Global, bytes: &[u8]) -> Result<Option<Text>, Memory>
+    ensures name { IfOk result (λ o. IfSome o (λ t. (t ≡ bytes.now) × IsShortName bytes.now)) }
+    ensures none { IfOk result (λ o. IfNone o (IsShortName bytes.now → ⊥)) }
+{
+    if bytes.len() > 40 || !is_word(bytes) {
+        return Ok(None);
+    }
+    let Ok(word) = str::from_utf8(bytes) else {
+        return Ok(None);
+    };
+    if is_keyword(word) {
+        return Ok(None);
+    }
+    Ok(Some(Text::of(alloc, word)?))
+}

@@ -1,0 +1,11 @@
+//! The top call.
+#![tactic(auto)]
+
+mod due;
+mod ending;
+mod form;
+mod perform;
+mod words;
+
+pub use due::{Change, Due};
+pub use ending::Ending;
