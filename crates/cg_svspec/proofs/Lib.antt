@@ -4,3 +4,5 @@ pub mod Longest
 pub mod Pieces
 pub mod PrintedExpressions
 pub mod PrintedModules
+pub mod SameToken
+pub mod OneReading
