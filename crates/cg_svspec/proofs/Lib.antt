@@ -6,3 +6,4 @@ pub mod PrintedExpressions
 pub mod PrintedModules
 pub mod SameToken
 pub mod OneReading
+pub mod ExpressionBack
