@@ -1,11 +1,10 @@
 -- The tokens of an expression are read back as that expression.
-use Rattle.std.proofs.Common.{◌≡◌, ℕ, zero, suc, ◌+◌, ◌≤◌, ◌<◌, max, eqb, Bool, true, false, List, [], ◌∷◌, ◌++◌, length, refl, ap, sym, ◌∙◌, arith, append_assoc, length-append, Some}
-use Rattle.cg_svspec.specs.Tokens.{Token, word, num, mark, equals}
-use Rattle.cg_svspec.specs.Tokens as token
+use Rattle.std.proofs.Common.{◌≡◌, ℕ, zero, suc, ◌≤◌, ◌<◌, false, List, [], ◌∷◌, ◌++◌, length, refl, ap, ◌∙◌, arith, append_assoc, length-append, Some}
+use Rattle.cg_svspec.specs.Tokens.{Token, mark, equals}
 use Rattle.cg_svspec.specs.Tree.{Expression, net, cut, lit, cat, inv, any, and, or, equal, pick, Expressions, none, more, expressions}
 use Rattle.cg_svspec.specs.Grammar.{expression_tokens, rest_tokens}
-use Rattle.cg_svspec.specs.Printable.{IsPrintableExpression, ArePrintable, depth, depth_of_parts}
-use Rattle.cg_svspec.specs.Parse.{Found, onward, next_is, items_after, net_or_cut, operation, in_parentheses, expression_at}
+use Rattle.cg_svspec.specs.Printable.{IsPrintableExpression, ArePrintable, depth, depth_of_parts, IsExpression}
+use Rattle.cg_svspec.specs.Parse.{Found, onward, next_is, items_after, net_or_cut, operation, in_parentheses, expression_within, expression_at}
 
 -- the parts of a concatenation as a list
 abbrev pub parts_of : Expressions → List Expression
@@ -55,7 +54,7 @@ some_depth (equal x y) = omega arith
 some_depth (pick c x y) = omega arith
 
 mutual
-  pub expression_back : (x : Expression) → IsPrintableExpression x → (d : ℕ) → depth x ≤ d → (ts : List Token) → next_is 91 ts ≡ false → expression_at d (expression_tokens x ++ ts) ≡ Some (x, ts)
+  pub expression_back : (x : Expression) → IsPrintableExpression x → (d : ℕ) → depth x ≤ d → (ts : List Token) → next_is 91 ts ≡ false → expression_within d (expression_tokens x ++ ts) ≡ Some (x, ts)
   expression_back x is zero h ts apart = absurd (omega (arith, some_depth x))
   expression_back (net n) is (suc d) h ts apart = rw is.1 (bare_net n ts apart)
   expression_back (cut n m l) is (suc d) h ts apart = rw is.0.1 refl
@@ -64,38 +63,55 @@ mutual
   expression_back (cat (more x xs)) is (suc d) h ts apart =
       let size : length (parts_of xs) < length (rest_tokens xs ++ mark 125 ∷ ts) = omega (arith, count_below xs, length-append (rest_tokens xs) (mark 125 ∷ ts)) in
       simp append_assoc
-      (rw (expression_back x is.0 d (omega arith) (rest_tokens xs ++ mark 125 ∷ ts) (behind_part xs ts),
+      (rw (
+        expression_back x is.0 d (omega arith) (rest_tokens xs ++ mark 125 ∷ ts) (behind_part xs ts),
         parts_back xs is.1 d (omega arith) (length (rest_tokens xs ++ mark 125 ∷ ts)) size ts,
-        expressions-parts_of xs) refl)
+        expressions-parts_of xs,
+      ) refl)
   expression_back (inv x) is (suc d) h ts apart = simp append_assoc (rw (expression_back x is d (omega arith) (mark 41 ∷ ts) refl) refl)
   expression_back (any x) is (suc d) h ts apart = simp append_assoc (rw (expression_back x is d (omega arith) (mark 41 ∷ ts) refl) refl)
   expression_back (and x y) is (suc d) h ts apart =
       simp append_assoc
-      (no_operator (expression_at d) x _
-      ∙ rw (expression_back x is.0 d (omega arith) (mark 38 ∷ (expression_tokens y ++ mark 41 ∷ ts)) refl,
-        expression_back y is.1 d (omega arith) (mark 41 ∷ ts) refl) refl)
+      (no_operator (expression_within d) x _
+      ∙ rw (
+        expression_back x is.0 d (omega arith) (mark 38 ∷ (expression_tokens y ++ mark 41 ∷ ts)) refl,
+        expression_back y is.1 d (omega arith) (mark 41 ∷ ts) refl,
+      ) refl)
   expression_back (or x y) is (suc d) h ts apart =
       simp append_assoc
-      (no_operator (expression_at d) x _
-      ∙ rw (expression_back x is.0 d (omega arith) (mark 124 ∷ (expression_tokens y ++ mark 41 ∷ ts)) refl,
-        expression_back y is.1 d (omega arith) (mark 41 ∷ ts) refl) refl)
+      (no_operator (expression_within d) x _
+      ∙ rw (
+        expression_back x is.0 d (omega arith) (mark 124 ∷ (expression_tokens y ++ mark 41 ∷ ts)) refl,
+        expression_back y is.1 d (omega arith) (mark 41 ∷ ts) refl,
+      ) refl)
   expression_back (equal x y) is (suc d) h ts apart =
       simp append_assoc
-      (no_operator (expression_at d) x _
-      ∙ rw (expression_back x is.0 d (omega arith) (equals ∷ (expression_tokens y ++ mark 41 ∷ ts)) refl,
-        expression_back y is.1 d (omega arith) (mark 41 ∷ ts) refl) refl)
+      (no_operator (expression_within d) x _
+      ∙ rw (
+        expression_back x is.0 d (omega arith) (equals ∷ (expression_tokens y ++ mark 41 ∷ ts)) refl,
+        expression_back y is.1 d (omega arith) (mark 41 ∷ ts) refl,
+      ) refl)
   expression_back (pick c x y) is (suc d) h ts apart =
       simp append_assoc
-      (no_operator (expression_at d) c _
-      ∙ rw (expression_back c is.0 d (omega arith) (mark 63 ∷ (expression_tokens x ++ (mark 58 ∷ (expression_tokens y ++ mark 41 ∷ ts)))) refl,
+      (no_operator (expression_within d) c _
+      ∙ rw (
+        expression_back c is.0 d (omega arith) (mark 63 ∷ (expression_tokens x ++ (mark 58 ∷ (expression_tokens y ++ mark 41 ∷ ts)))) refl,
         expression_back x is.1 d (omega arith) (mark 58 ∷ (expression_tokens y ++ mark 41 ∷ ts)) refl,
-        expression_back y is.2 d (omega arith) (mark 41 ∷ ts) refl) refl)
+        expression_back y is.2 d (omega arith) (mark 41 ∷ ts) refl,
+      ) refl)
 
   -- the parts behind the first one, and the closing brace
-  parts_back : (xs : Expressions) → ArePrintable xs → (d : ℕ) → depth_of_parts xs ≤ d → (k : ℕ) → length (parts_of xs) < k → (ts : List Token) → items_after (expression_at d) 125 k (rest_tokens xs ++ mark 125 ∷ ts) ≡ Some (parts_of xs, ts)
+  parts_back : (xs : Expressions) → ArePrintable xs → (d : ℕ) → depth_of_parts xs ≤ d → (k : ℕ) → length (parts_of xs) < k → (ts : List Token) → items_after (expression_within d) 125 k (rest_tokens xs ++ mark 125 ∷ ts) ≡ Some (parts_of xs, ts)
   parts_back xs is d h zero l ts = absurd (omega arith)
   parts_back none is d h (suc k) l ts = refl
   parts_back (more x xs) is d h (suc k) l ts =
       simp append_assoc
-      (rw (expression_back x is.0 d (omega arith) (rest_tokens xs ++ mark 125 ∷ ts) (behind_part xs ts),
-        parts_back xs is.1 d (omega arith) k (omega arith) ts) refl)
+      (rw (
+        expression_back x is.0 d (omega arith) (rest_tokens xs ++ mark 125 ∷ ts) (behind_part xs ts),
+        parts_back xs is.1 d (omega arith) k (omega arith) ts,
+      ) refl)
+
+-- an expression of the grammar
+pub whole_expression_back : (x : Expression) → IsExpression x → (ts : List Token) → next_is 91 ts ≡ false → expression_at (expression_tokens x ++ ts) ≡ Some (x, ts)
+unfolding expression_at
+whole_expression_back x is ts apart = expression_back x is.0 128 is.1 ts apart

@@ -7,3 +7,5 @@ pub mod PrintedModules
 pub mod SameToken
 pub mod OneReading
 pub mod ExpressionBack
+pub mod ItemsBack
+pub mod ModulesBack

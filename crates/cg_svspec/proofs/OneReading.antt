@@ -1,11 +1,11 @@
 -- A text has one list of tokens, as far as tokens, blanks and comments go.
-use Rattle.std.proofs.Common.{◌≡◌, ℕ, ◌≤◌, eqb, cond, Bool, true, false, ◌&&◌, ◌||◌, List, [], ◌∷◌, ◌++◌, length, refl, ap, sym, subst, ◌∙◌, arith, append_assoc, codes}
+use Rattle.std.proofs.Common.{◌≡◌, ℕ, eqb, cond, true, false, ◌&&◌, List, [], ◌∷◌, ◌++◌, length, refl, ap, sym, subst, ◌∙◌, arith, append_assoc, codes}
 use Rattle.std.proofs.lemmas.Bool.{both_ways}
 use Rattle.std.proofs.lemmas.Bool.Decides.{nat_tests}
-use Rattle.cg_svspec.specs.Characters.{is_blank, Each}
+use Rattle.cg_svspec.specs.Characters.{is_blank}
 use Rattle.cg_svspec.specs.Tokens.{Token, IsToken, spelling, IsLongest, Piece, token, blank, return, line, block, shown, shown_all, tokens_of, EndsLine, is_inside_line, has_close, IsBlockBody, Fit, NothingBegins, ReadsTo, Reads}
 use Rattle.cg_svspec.proofs.Runs.{or_false_right, StartsNot, same_run, same_front}
-use Rattle.cg_svspec.proofs.SameToken.{Begins, starts_token, token_begins, same_token}
+use Rattle.cg_svspec.proofs.SameToken.{starts_token, token_begins, same_token}
 
 -- what kind of piece this is
 abbrev kind_of_piece : Piece → ℕ

@@ -13,6 +13,11 @@ pub both_pass : (a b : Bool) → (a && b) ≡ true → (a ≡ true) × (b ≡ tr
 both_pass true b h = (refl, h)
 both_pass false b h = cc
 
+-- the first test fails where their disjunction does
+pub or_false_left : (a b : Bool) → (a || b) ≡ false → a ≡ false
+or_false_left true b h = cc
+or_false_left false b h = refl
+
 -- the second test fails where their disjunction does
 pub or_false_right : (a b : Bool) → (a || b) ≡ false → b ≡ false
 or_false_right true b h = cc

@@ -1,5 +1,5 @@
 -- Two tokens of one spelling are equal, and what a token begins with.
-use Rattle.std.proofs.Common.{◌≡◌, ℕ, ◌+◌, ◌<◌, ◌≤◌, ◌^◌, Bool, true, false, ◌||◌, List, [], ◌∷◌, ◌++◌, length, refl, ap, sym, ◌∙◌, arith, append-nil, codes}
+use Rattle.std.proofs.Common.{◌≡◌, ℕ, ◌<◌, Bool, true, false, ◌||◌, List, [], ◌∷◌, ◌++◌, length, refl, ap, sym, ◌∙◌, arith, append-nil, codes}
 use Rattle.std.specs.Fmt.{decimal, digits}
 use Rattle.std.proofs.Math.Bool.{or-true}
 use Rattle.cg_svspec.specs.Characters.{is_digit, is_first, is_mark, Each}

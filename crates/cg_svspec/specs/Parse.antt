@@ -101,12 +101,16 @@ abbrev pub in_braces : (List Token → Found Expression) → List Token → Foun
 in_braces read ts = onward (items_at read 125 ts) (λ xs ts. Some (cat (expressions xs), ts))
 
 -- an expression of at most this depth
-abbrev pub expression_at : ℕ → List Token → Found Expression
-expression_at zero ts = None
-expression_at (suc d) (word w ∷ ts) = either (is_keyword w) nothing (net_or_cut w) ts
-expression_at (suc d) (token.lit w v ∷ ts) = Some (lit w v, ts)
-expression_at (suc d) (mark c ∷ ts) = either (eqb c 40) (in_parentheses (expression_at d)) (either (eqb c 123) (in_braces (expression_at d)) nothing) ts
-expression_at (suc d) _ = None
+abbrev pub expression_within : ℕ → List Token → Found Expression
+expression_within zero ts = None
+expression_within (suc d) (word w ∷ ts) = either (is_keyword w) nothing (net_or_cut w) ts
+expression_within (suc d) (token.lit w v ∷ ts) = Some (lit w v, ts)
+expression_within (suc d) (mark c ∷ ts) = either (eqb c 40) (in_parentheses (expression_within d)) (either (eqb c 123) (in_braces (expression_within d)) nothing) ts
+expression_within (suc d) _ = None
+
+-- an expression of the grammar
+unfoldable pub expression_at : List Token → Found Expression
+expression_at = expression_within 128
 
 -- ---- ports, parameters and connections
 
@@ -150,13 +154,13 @@ parameters_at ts = either (next_is 35 ts) (λ ts. behind 35 ts (λ ts. behind 40
 -- . name ( expr )
 abbrev pub connection_at : List Token → Found Connection
 connection_at ts =
-    behind 46 ts (λ ts. with_name ts (λ n ts. behind 40 ts (λ ts. onward (expression_at 128 ts) (λ x ts. behind 41 ts (λ ts. Some (record { name = n; value = x }, ts))))))
+    behind 46 ts (λ ts. with_name ts (λ n ts. behind 40 ts (λ ts. onward (expression_at ts) (λ x ts. behind 41 ts (λ ts. Some (record { name = n; value = x }, ts))))))
 
 -- ---- entries and modules
 
 -- expr ; of which f makes the entry
 abbrev pub expression_end : (Expression → Entry) → List Token → Found Entry
-expression_end f ts = onward (expression_at 128 ts) (λ x ts. behind 59 ts (λ ts. Some (f x, ts)))
+expression_end f ts = onward (expression_at ts) (λ x ts. behind 59 ts (λ ts. Some (f x, ts)))
 
 -- behind wire: [ range ] name [ = expr ] ;
 abbrev pub wire_at : List Token → Found Entry

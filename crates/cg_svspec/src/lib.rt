@@ -8,9 +8,14 @@
 //! Not promised: that any other tool for SystemVerilog accepts these texts, or reads them the same way.
 #![tactic(auto)]
 
-ghost use Rattle.cg_svspec.specs.Stands.{PrintedTextStands};
+ghost use Rattle.cg_svspec.specs.Stands.{PrintedTextStands, TextStandsForOneList};
 
 /// What is printed stands for just the module that was printed.
 pub fn printed_text_stands()
     ensures { PrintedTextStands }
+{}
+
+/// A text stands for at most one list of modules.
+pub fn text_stands_for_one_list()
+    ensures { TextStandsForOneList }
 {}
