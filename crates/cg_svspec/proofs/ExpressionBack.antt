@@ -11,6 +11,7 @@ abbrev pub parts_of : Expressions → List Expression
 parts_of none = []
 parts_of (more x xs) = x ∷ parts_of xs
 
+-- as a list and back
 pub expressions-parts_of : (xs : Expressions) → expressions (parts_of xs) ≡ xs
 expressions-parts_of none = refl
 expressions-parts_of (more x xs) = ap (more x) (expressions-parts_of xs)
@@ -32,6 +33,7 @@ no_operator read (pick c x y) ts = refl
 bare_net : (n : List ℕ) (ts : List Token) → next_is 91 ts ≡ false → net_or_cut n ts ≡ Some (net n, ts)
 bare_net n ts h = rw h refl
 
+-- each part behind the first one has a token
 count_below : (xs : Expressions) → length (parts_of xs) ≤ length (rest_tokens xs)
 count_below none = omega arith
 count_below (more x xs) = omega (arith, count_below xs, length-append (expression_tokens x) (rest_tokens xs))
@@ -41,6 +43,7 @@ behind_part : (xs : Expressions) (ts : List Token) → next_is 91 (rest_tokens x
 behind_part none ts = refl
 behind_part (more x xs) ts = refl
 
+-- an expression has at least depth 1
 some_depth : (x : Expression) → 0 < depth x
 some_depth (net n) = omega arith
 some_depth (cut n m l) = omega arith
@@ -54,6 +57,7 @@ some_depth (equal x y) = omega arith
 some_depth (pick c x y) = omega arith
 
 mutual
+  -- an expression, read with at least its depth
   pub expression_back : (x : Expression) → IsPrintableExpression x → (d : ℕ) → depth x ≤ d → (ts : List Token) → next_is 91 ts ≡ false → expression_within d (expression_tokens x ++ ts) ≡ Some (x, ts)
   expression_back x is zero h ts apart = absurd (omega (arith, some_depth x))
   expression_back (net n) is (suc d) h ts apart = rw is.1 (bare_net n ts apart)

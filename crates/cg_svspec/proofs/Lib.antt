@@ -9,3 +9,4 @@ pub mod OneReading
 pub mod ExpressionBack
 pub mod ItemsBack
 pub mod ModulesBack
+pub mod Examples

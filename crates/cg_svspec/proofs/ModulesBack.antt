@@ -19,6 +19,7 @@ record IsNoOpening (n : List ℕ) : Type 0 where
   wire : bytes_eq n (codes "wire") ≡ false
   assign : bytes_eq n (codes "assign") ≡ false
 
+-- a name is no quoted word, and so none of these
 no_opening : (n : List ℕ) → is_keyword n ≡ false → IsNoOpening n
 no_opening n h =
     let e = or_false_right (bytes_eq n (codes "module")) _ h in
@@ -51,6 +52,7 @@ entry_back (inst m ps n cs) is k ts =
       connections_back cs is.3 is.4 (mark 59 ∷ ts),
     ) refl)
 
+-- all entries, and the word that ends them
 entries_back : (xs : List Entry) → AllOf IsPrintableEntry xs → (k : ℕ) → length xs < k → (ts : List Token) → entries_at k (entries_tokens xs ++ word (codes "endmodule") ∷ ts) ≡ Some (xs, ts)
 entries_back xs is zero l ts = absurd (omega arith)
 entries_back [] is (suc k) l ts = refl
@@ -65,10 +67,12 @@ some_token (drive w n x) = omega arith
 some_token (assign n x) = omega arith
 some_token (inst m ps n cs) = omega arith
 
+-- each entry has a token
 entries_below : (xs : List Entry) → length xs ≤ length (entries_tokens xs)
 entries_below [] = omega arith
 entries_below (x ∷ xs) = omega (arith, some_token x, entries_below xs, length-append (entry_tokens x) (entries_tokens xs))
 
+-- a module
 pub module_back : (m : Module) → IsPrintable m → (ts : List Token) → module_at (module_tokens m ++ ts) ≡ Some (m, ts)
 module_back m is ts =
     let size : length m.entries < length (entries_tokens m.entries ++ word (codes "endmodule") ∷ ts) = omega (arith, entries_below m.entries, length-append (entries_tokens m.entries) (word (codes "endmodule") ∷ ts)) in
@@ -79,12 +83,14 @@ module_back m is ts =
       entries_back m.entries is.entries (length (entries_tokens m.entries ++ word (codes "endmodule") ∷ ts)) size ts,
     ) refl)
 
+-- modules, read with at least their number
 modules_back : (ms : List Module) → AllOf IsPrintable ms → (k : ℕ) → length ms ≤ k → modules_at k (modules_tokens ms) ≡ (ms, [])
 modules_back [] is zero l = refl
 modules_back [] is (suc k) l = refl
 modules_back (m ∷ ms) is zero l = absurd (omega arith)
 modules_back (m ∷ ms) is (suc k) l = rw (module_back m is.0 (modules_tokens ms), modules_back ms is.1 k (omega arith)) refl
 
+-- each module has a token
 modules_below : (ms : List Module) → length ms ≤ length (modules_tokens ms)
 modules_below [] = omega arith
 modules_below (m ∷ ms) = omega (arith, modules_below ms, length-append (module_tokens m) (modules_tokens ms))
@@ -97,5 +103,6 @@ read_modules_back ms is = modules_back ms is (length (modules_tokens ms)) (modul
 pub modules_equal : (ms ns : List Module) → AllOf IsPrintable ms → AllOf IsPrintable ns → modules_tokens ms ≡ modules_tokens ns → ms ≡ ns
 modules_equal ms ns a b e = ap (λ z. z.0) (sym (read_modules_back ms a) ∙ ap read_modules e ∙ read_modules_back ns b)
 
+-- a text stands for at most one list of modules
 pub stands_for_one_list : TextStandsForOneList
 stands_for_one_list text ms ns a b = modules_equal ms ns a.trees b.trees (same_tokens text (modules_tokens ms) (modules_tokens ns) a.reads b.reads)

@@ -8,7 +8,7 @@ use Rattle.cg_svspec.proofs.Runs.{or_false_right, StartsNot, same_run, same_fron
 use Rattle.cg_svspec.proofs.SameToken.{starts_token, token_begins, same_token}
 
 -- what kind of piece this is
-abbrev kind_of_piece : Piece → ℕ
+abbrev pub kind_of_piece : Piece → ℕ
 kind_of_piece (token t) = 0
 kind_of_piece (blank c) = 1
 kind_of_piece return = 2
@@ -16,20 +16,21 @@ kind_of_piece (line body) = 3
 kind_of_piece (block body) = 4
 
 -- what kind of comment begins with a slash and this text
-abbrev kind_of_comment : List ℕ → ℕ
+abbrev pub kind_of_comment : List ℕ → ℕ
 kind_of_comment [] = 0
 kind_of_comment (c ∷ cs) = cond (eqb c 47) 3 4
 
 -- what kind of piece the text begins with
-abbrev kind_at : List ℕ → ℕ
+abbrev pub kind_at : List ℕ → ℕ
 kind_at [] = 0
 kind_at (c ∷ cs) = cond (is_blank c) 1 (cond (eqb c 13) 2 (cond (eqb c 47) (kind_of_comment cs) 0))
 
+-- where a token begins, no other piece does
 starts_no_other : (c : ℕ) (cs : List ℕ) → starts_token c ≡ true → kind_at (c ∷ cs) ≡ 0
 starts_no_other c cs h = grind (arith, nat_tests)
 
 -- a text begins with a piece of the kind that its first characters tell
-same_kind : (p : Piece) (tail : List ℕ) → Fit (p ∷ []) tail → kind_at (shown p ++ tail) ≡ kind_of_piece p
+pub same_kind : (p : Piece) (tail : List ℕ) → Fit (p ∷ []) tail → kind_at (shown p ++ tail) ≡ kind_of_piece p
 same_kind (token t) tail f =
     let b = token_begins t f.0 in
     subst (λ z. kind_at (z ++ tail) ≡ 0) (sym b.is) (starts_no_other b.first (b.after ++ tail) b.kind)
@@ -43,6 +44,7 @@ later_close : (c : ℕ) (cs : List ℕ) → has_close (c ∷ cs) ≡ false → h
 later_close c [] h = refl
 later_close c (d ∷ cs) h = or_false_right (eqb c 42 && eqb d 47) (has_close (d ∷ cs)) h
 
+-- */ at the front is found
 close_found : (c d : ℕ) (cs : List ℕ) → c ≡ 42 → d ≡ 47 → has_close (c ∷ (d ∷ cs)) ≡ true
 close_found c d cs a b = rw (a, b) refl
 
@@ -50,6 +52,7 @@ close_found c d cs a b = rw (a, b) refl
 heads : (a b c d : ℕ) (xs ys : List ℕ) → a ∷ b ∷ xs ≡ c ∷ d ∷ ys → (a ≡ c) × (b ≡ d)
 heads a b c d xs ys e = (cc, cc)
 
+-- the second character of */ is no *
 star_no_slash : (y : ℕ) (rest tail : List ℕ) → 42 ∷ 47 ∷ rest ≡ y ∷ 42 ∷ tail → ⊥
 star_no_slash y rest tail e = cc
 
@@ -72,10 +75,12 @@ same_body (x ∷ xs) (y ∷ ys) rest tail a b e =
     let tails : xs ≡ ys = more.0 in
     (cc, more.1)
 
+-- what ends a line comment is not inside it
 ends_line : (xs : List ℕ) → EndsLine xs → StartsNot is_inside_line xs
 ends_line [] h = tt
 ends_line (x ∷ xs) h = rw h refl
 
+-- two tokens that are the longest at one place are equal
 same_word : (t u : Token) (rest tail : List ℕ) → IsToken t → IsToken u → IsLongest t rest → IsLongest u tail → spelling t ++ rest ≡ spelling u ++ tail → (t ≡ u) × (rest ≡ tail)
 same_word t u rest tail a b longest_t longest_u e =
     let size : length (spelling t) ≡ length (spelling u) = omega (arith, longest_t u tail b e, longest_u t rest a (sym e)) in
@@ -90,6 +95,7 @@ tail_of e = cc
 regroup : (body rest : List ℕ) → (body ++ codes "*/") ++ rest ≡ body ++ (42 ∷ 47 ∷ rest)
 regroup body rest = append_assoc body (codes "*/") rest
 
+-- two pieces of one kind that stand at one place are equal
 pieces_equal : (p q : Piece) (rest tail : List ℕ) → kind_of_piece p ≡ kind_of_piece q → Fit (p ∷ []) rest → Fit (q ∷ []) tail → shown p ++ rest ≡ shown q ++ tail → (p ≡ q) × (rest ≡ tail)
 pieces_equal (token t) (token u) rest tail k f g e =
     let same = same_word t u rest tail f.0 g.0 f.1 g.1 e in
@@ -136,6 +142,7 @@ first_fits return ps tail f = tt
 first_fits (line body) ps tail f = (f.0, f.1, tt)
 first_fits (block body) ps tail f = (f.0, tt)
 
+-- the other pieces fit behind the first one
 others_fit : (p : Piece) (ps : List Piece) (tail : List ℕ) → Fit (p ∷ ps) tail → Fit ps tail
 others_fit (token t) ps tail f = f.2
 others_fit (blank c) ps tail f = f.1
@@ -151,6 +158,7 @@ with_piece return ps qs e = e
 with_piece (line body) ps qs e = e
 with_piece (block body) ps qs e = e
 
+-- two readings of a text, as far as pieces go, have the same tokens and leave the same
 one_reading : (ps qs : List Piece) (rest tail : List ℕ) → Fit ps rest → Fit qs tail → NothingBegins rest → NothingBegins tail → shown_all ps ++ rest ≡ shown_all qs ++ tail → (tokens_of ps ≡ tokens_of qs) × (rest ≡ tail)
 one_reading [] [] rest tail f g a b e = (refl, e)
 one_reading [] (q ∷ qs) rest tail f g a b e = absurd (a q (shown_all qs ++ tail) (first_fits q qs tail g) (e ∙ append_assoc (shown q) (shown_all qs) tail))
@@ -167,7 +175,7 @@ reads_once text ts us rest tail a b r s =
     (sym r.in_order ∙ one.0 ∙ s.in_order, one.1)
 
 -- no piece is empty
-shows_some : (p : Piece) (tail : List ℕ) → Fit (p ∷ []) tail → [] ≡ shown p ++ tail → ⊥
+pub shows_some : (p : Piece) (tail : List ℕ) → Fit (p ∷ []) tail → [] ≡ shown p ++ tail → ⊥
 shows_some (token t) tail f e =
     let b = token_begins t f.0 in
     let all : [] ≡ b.first ∷ (b.after ++ tail) = e ∙ ap (λ z. z ++ tail) b.is in

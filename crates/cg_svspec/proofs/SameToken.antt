@@ -28,9 +28,11 @@ wider p q xs ys up b = record { first = b.first; after = b.after ++ ys; is = ap 
 abbrev pub starts_token : ℕ → Bool
 starts_token c = is_first c || (is_digit c || is_mark c)
 
+-- a digit begins a token
 digit_starts : (c : ℕ) → is_digit c ≡ true → starts_token c ≡ true
 digit_starts c h = rw h (or-true (is_first c))
 
+-- a token begins with a letter, an underscore, a digit or a mark
 pub token_begins : (t : Token) → IsToken t → Begins starts_token (spelling t)
 token_begins (word []) is = absurd is
 token_begins (word (c ∷ cs)) is = record { first = c; after = cs; is = refl; kind = rw is.0 refl }
@@ -46,12 +48,14 @@ token_begins equals is = record { first = 61; after = 61 ∷ []; is = refl; kind
 on_nil : {xs ys : List ℕ} → xs ≡ ys → xs ++ [] ≡ ys ++ []
 on_nil e = ap (λ z. z ++ []) e
 
+-- no number is spelled as a literal
 number_no_literal : (n w v : ℕ) → decimal n ≡ decimal w ++ (39 ∷ 104 ∷ digits 16 false v) → ⊥
 number_no_literal n w v e =
     let run = same_run is_digit (decimal n) (decimal w) [] (39 ∷ 104 ∷ digits 16 false v) (decimal_digits n) (decimal_digits w) tt refl (append-nil (decimal n) ∙ e) in
     let bad : [] ≡ 39 ∷ 104 ∷ digits 16 false v = run.1 in
     cc
 
+-- tokens of one spelling are equal
 pub same_token : (t u : Token) → IsToken t → IsToken u → spelling t ≡ spelling u → t ≡ u
 same_token (word w) (word x) a b e = ap word e
 same_token (word w) (num n) a b e = absurd (word_no_number w n [] [] a (on_nil e))

@@ -1,5 +1,6 @@
--- Trees read from the front of a list of tokens: the grammar once more, as functions that go from left to right.
--- Each gives the tree that stands there and the tokens that are left, or nothing where no such tree stands there.
+-- Trees read from the front of a list of tokens: the grammar once more, as functions that go from left to right. Each gives
+-- the tree and the tokens that are left, or nothing. Below the grammar they serve to show that no two trees have the same
+-- tokens: the tokens of a printable tree are read back as that tree (proofs/ExpressionBack, ItemsBack, ModulesBack).
 use Rattle.std.specs.Prelude.{ℕ, zero, suc, eqb, Bool, true, false, List, [], ◌∷◌, codes, length, Option, Some, None}
 use Rattle.std.specs.Str.{bytes_eq}
 use Rattle.cg_svspec.specs.Characters.{is_keyword}
@@ -47,18 +48,18 @@ with_name _ f = None
 
 -- ---- lists
 
--- { , item } close, which stands behind the first item of a list; k is above the number of these items
+-- { , item } and the mark that ends the list, behind its first item; k is above the number of these items
 abbrev pub items_after : {A : Type 0} → (List Token → Found A) → ℕ → ℕ → List Token → Found (List A)
-items_after read close zero ts = None
-items_after read close (suc k) ts =
+items_after read ending zero ts = None
+items_after read ending (suc k) ts =
     either (next_is 44 ts)
-    (λ ts. behind 44 ts (λ ts. onward (read ts) (λ x ts. onward (items_after read close k ts) (λ xs ts. Some (x ∷ xs, ts)))))
-    (λ ts. behind close ts (λ ts. Some ([], ts)))
+    (λ ts. behind 44 ts (λ ts. onward (read ts) (λ x ts. onward (items_after read ending k ts) (λ xs ts. Some (x ∷ xs, ts)))))
+    (λ ts. behind ending ts (λ ts. Some ([], ts)))
     ts
 
--- item { , item } close
+-- item { , item } and the mark that ends the list
 abbrev pub items_at : {A : Type 0} → (List Token → Found A) → ℕ → List Token → Found (List A)
-items_at read close ts = onward (read ts) (λ x ts. onward (items_after read close (length ts) ts) (λ xs ts. Some (x ∷ xs, ts)))
+items_at read ending ts = onward (read ts) (λ x ts. onward (items_after read ending (length ts) ts) (λ xs ts. Some (x ∷ xs, ts)))
 
 -- ---- expressions: `read` reads an expression inside
 
