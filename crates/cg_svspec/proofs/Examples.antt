@@ -1,9 +1,9 @@
 -- Texts and trees that are written out, so that a reader sees what the definitions say of them.
-use Rattle.std.proofs.Common.{◌≡◌, ℕ, ◌≤◌, true, false, List, [], ◌∷◌, ◌++◌, length, refl, ap, sym, ◌∙◌, arith, length-append, codes, Some, None}
+use Rattle.std.proofs.Common.{◌≡◌, ℕ, ◌≤◌, true, false, List, [], ◌∷◌, ◌++◌, length, refl, ap, sym, ◌∙◌, arith, length-append, codes, None}
 use Rattle.std.specs.Fmt.{digits}
 use Rattle.cg_svspec.specs.Characters.{IsName}
-use Rattle.cg_svspec.specs.Tokens.{Token, word, num, mark, equals, Piece, token, blank, return, line, block, shown, Fit, NothingBegins, ReadsTo, Reads}
-use Rattle.cg_svspec.specs.Tree.{Expression, net, cut, lit, cat, inv, any, and, or, equal, pick, none, more, Port, Parameter, Connection, Entry, wire, drive, assign, inst, Module}
+use Rattle.cg_svspec.specs.Tokens.{Token, word, num, mark, Piece, token, blank, return, line, block, shown, NothingBegins, Reads}
+use Rattle.cg_svspec.specs.Tree.{Expression, net, cut, lit, cat, inv, any, and, or, equal, pick, none, more, Port, Parameter, Connection, wire, drive, assign, inst, Module}
 use Rattle.cg_svspec.specs.Grammar.{range_tokens, port_tokens, parameter_tokens, connection_tokens, modules_tokens}
 use Rattle.cg_svspec.specs.Layout.{range_text, port_text, parameter_text, connection_text, module_text}
 use Rattle.cg_svspec.specs.Parse.{width_at, expression_at, read_modules}
@@ -28,14 +28,14 @@ sample = record {
   name = codes "sample";
   ports = input_port 1 (codes "clk_i") ∷ input_port 32 (codes "reg_addr") ∷ output_port 4 (codes "q") ∷ [];
   entries =
-    wire 4 (codes "s")
-    ∷ drive 1 (codes "hit_0") (equal (cut (codes "reg_addr") 31 2) (lit 30 0))
-    ∷ drive 4 (codes "n") (pick (and (net (codes "hit_0")) (inv (net (codes "clk_i")))) (cat (more (lit 3 5) (more (any (net (codes "s"))) none))) (or (net (codes "s")) (lit 4 15)))
-    ∷ assign (codes "q") (cat (more (net (codes "s")) none))
-    ∷ inst (codes "prim_flop") (parameter (codes "Width") (lit 0 4) ∷ parameter (codes "ResetValue") (lit 4 10) ∷ []) (codes "u_s")
-        (connection (codes "d_i") (net (codes "n")) ∷ connection (codes "q_o") (net (codes "s")) ∷ [])
-    ∷ inst (codes "other") [] (codes "u_other") (connection (codes "clk_i") (net (codes "clk_i")) ∷ [])
-    ∷ [];
+      wire 4 (codes "s")
+      ∷ drive 1 (codes "hit_0") (equal (cut (codes "reg_addr") 31 2) (lit 30 0))
+      ∷ drive 4 (codes "n") (pick (and (net (codes "hit_0")) (inv (net (codes "clk_i")))) (cat (more (lit 3 5) (more (any (net (codes "s"))) none))) (or (net (codes "s")) (lit 4 15)))
+      ∷ assign (codes "q") (cat (more (net (codes "s")) none))
+      ∷ inst (codes "prim_flop") (parameter (codes "Width") (lit 0 4) ∷ parameter (codes "ResetValue") (lit 4 10) ∷ []) (codes "u_s")
+      (connection (codes "d_i") (net (codes "n")) ∷ connection (codes "q_o") (net (codes "s")) ∷ [])
+      ∷ inst (codes "other") [] (codes "u_other") (connection (codes "clk_i") (net (codes "clk_i")) ∷ [])
+      ∷ [];
 }
 
 -- its text, letter by letter
