@@ -4,3 +4,9 @@ pub mod Longest
 pub mod Pieces
 pub mod PrintedExpressions
 pub mod PrintedModules
+pub mod SameToken
+pub mod OneReading
+pub mod ExpressionBack
+pub mod ItemsBack
+pub mod ModulesBack
+pub mod Examples

@@ -18,6 +18,7 @@ pub record Apart (rest : List ℕ) : Type 0 where
 pub apart_at : (c : ℕ) (cs : List ℕ) → is_name_character c ≡ false → is_digit c ≡ false → is_hexadecimal c ≡ false → eqb c 39 ≡ false → Apart (c ∷ cs)
 apart_at c cs n d h q = record { name = n; digit = d; hexadecimal = h; quote = q }
 
+-- what begins a name may also stand inside
 first_in_name : (c : ℕ) → is_first c ≡ true → is_name_character c ≡ true
 first_in_name c h = rw h refl
 
@@ -45,6 +46,7 @@ mark_no_word m (c ∷ cs) tail rest is ok e =
 pub literal_front : (w v : ℕ) (tail : List ℕ) → spelling (lit w v) ++ tail ≡ decimal w ++ (39 ∷ 104 ∷ (digits 16 false v ++ tail))
 literal_front w v tail = append_assoc (decimal w) (39 ∷ 104 ∷ digits 16 false v) tail
 
+-- a word
 pub word_longest : (w rest : List ℕ) → IsWord w → Apart rest → IsLongest (word w) rest
 word_longest w rest is apart (word x) tail ok e = no_longer is_name_character w x rest tail (name_characters x ok) apart.name e
 word_longest w rest is apart (num n) tail ok e = absurd (word_no_number w n rest tail is e)
@@ -56,10 +58,12 @@ word_longest w rest is apart equals tail ok e = absurd (mark_no_word 61 w (61 �
 tail_of : {a b c d : ℕ} {xs ys : List ℕ} → a ∷ b ∷ xs ≡ c ∷ d ∷ ys → xs ≡ ys
 tail_of e = cc
 
+-- a text that does not begin with a quote is none that does
 no_quote : (rest tail : List ℕ) → StartsNot (λ c. eqb c 39) rest → rest ≡ 39 ∷ tail → ⊥
 no_quote [] tail h e = cc
 no_quote (c ∷ cs) tail h e = let same : c ≡ 39 = same_first c 39 cs tail e in grind (arith, nat_tests)
 
+-- a number
 pub num_longest : (n : ℕ) (rest : List ℕ) → Apart rest → IsLongest (num n) rest
 num_longest n rest apart (word w) tail ok e = absurd (word_no_number w n tail rest ok (sym e))
 num_longest n rest apart (num m) tail ok e = no_longer is_digit (decimal n) (decimal m) rest tail (decimal_digits m) apart.digit e
@@ -81,6 +85,7 @@ literal_at w v rest apart (lit x y) tail ok e =
 literal_at w v rest apart (mark m) tail ok e = absurd (mark_no_number m w tail _ ok (sym e))
 literal_at w v rest apart equals tail ok e = absurd (mark_no_number 61 w (61 ∷ tail) _ refl (sym e))
 
+-- a literal
 pub lit_longest : (w v : ℕ) (rest : List ℕ) → Apart rest → IsLongest (lit w v) rest
 lit_longest w v rest apart u tail ok e = literal_at w v rest apart u tail ok (sym (literal_front w v rest) ∙ e)
 
@@ -92,9 +97,11 @@ single_longest c rest is single (lit w v) tail ok e = absurd (mark_no_number c w
 single_longest c rest is single (mark m) tail ok e = omega arith
 single_longest c rest is single equals tail ok e = absurd (single tail e)
 
+-- a mark other than =
 pub mark_longest : (c : ℕ) (rest : List ℕ) → is_mark c ≡ true → eqb c 61 ≡ false → IsLongest (mark c) rest
 mark_longest c rest is other = single_longest c rest is (λ tail e. let same : c ≡ 61 = same_first c 61 rest (61 ∷ tail) e in absurd (grind (arith, nat_tests)))
 
+-- no == stands where no second = follows
 no_second : (rest tail : List ℕ) → StartsNot (λ c. eqb c 61) rest → 61 ∷ rest ≡ 61 ∷ 61 ∷ tail → ⊥
 no_second [] tail h e = cc
 no_second (c ∷ cs) tail h e = let same : c ≡ 61 = cc in absurd (grind (arith, nat_tests))
@@ -103,6 +110,7 @@ no_second (c ∷ cs) tail h e = let same : c ≡ 61 = cc in absurd (grind (arith
 pub assign_longest : (rest : List ℕ) → StartsNot (λ c. eqb c 61) rest → IsLongest (mark 61) rest
 assign_longest rest other = single_longest 61 rest refl (λ tail. no_second rest tail other)
 
+-- the token ==
 pub equals_longest : (rest : List ℕ) → IsLongest equals rest
 equals_longest rest (word w) tail ok e = absurd (mark_no_word 61 w (61 ∷ rest) tail refl ok e)
 equals_longest rest (num n) tail ok e = absurd (mark_no_number 61 n (61 ∷ rest) tail refl e)

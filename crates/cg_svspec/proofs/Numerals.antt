@@ -29,20 +29,25 @@ some_digit base k n behind =
     elim (n / base == 0) as (λ b. 0 < length (if◌then◌else◌ b (digit_glyph false (n % base) ∷ behind) (digits_onto k base false (n / base) (digit_glyph false (n % base) ∷ behind))))
     [ true ↦ omega arith | false ↦ omega (arith, longer base k (n / base) (digit_glyph false (n % base) ∷ behind)) ]
 
+-- each decimal glyph is a digit
 decimal_glyph : (d : ℕ) → d < 10 → is_digit (digit_glyph false d) ≡ true
 decimal_glyph d h = grind (arith, nat_tests)
 
+-- each lower-case hexadecimal glyph is a hexadecimal digit
 hexadecimal_glyph : (d : ℕ) → d < 16 → is_hexadecimal (digit_glyph false d) ≡ true
 hexadecimal_glyph d h = grind (arith, nat_tests)
 
+-- a decimal spelling has digits alone
 pub decimal_digits : (n : ℕ) → Each is_digit (decimal n)
 unfolding digits
 decimal_digits n = glyphs is_digit 10 (omega arith) decimal_glyph 64 n [] tt
 
+-- a hexadecimal spelling has hexadecimal digits alone
 pub hexadecimal_digits : (n : ℕ) → Each is_hexadecimal (digits 16 false n)
 unfolding digits
 hexadecimal_digits n = glyphs is_hexadecimal 16 (omega arith) hexadecimal_glyph 64 n [] tt
 
+-- a decimal spelling is not empty
 pub decimal_some : (n : ℕ) → 0 < length (decimal n)
 unfolding digits
 decimal_some n = some_digit 10 63 n []

@@ -2,7 +2,7 @@
 use Rattle.std.proofs.Common.{◌≡◌, ℕ, eqb, Bool, true, false, ◌&&◌, List, [], ◌∷◌, ◌++◌, refl, ap, sym, subst, ◌∙◌, append_assoc, codes}
 use Rattle.std.specs.List.{list_all}
 use Rattle.cg_svspec.specs.Characters.{is_first, is_name_character, is_mark, is_blank, IsWord}
-use Rattle.cg_svspec.specs.Tokens.{Token, word, mark, equals, IsToken, spelling, IsLongest, token, blank, line, shown_all, is_inside_line, EndsLine, ReadsTo}
+use Rattle.cg_svspec.specs.Tokens.{Token, word, mark, equals, IsToken, spelling, IsLongest, token, blank, line, block, shown_all, is_inside_line, EndsLine, IsBlockBody, ReadsTo}
 use Rattle.cg_svspec.proofs.Runs.{both_pass, each_passes}
 use Rattle.cg_svspec.proofs.Longest.{Apart, apart_at, word_longest, mark_longest, assign_longest, equals_longest}
 
@@ -28,9 +28,21 @@ remark body more us tail inside r = record {
   each = (each_passes is_inside_line body inside, subst EndsLine r.whole refl, r.each);
 }
 
+-- a comment in /* and */
+pub block_remark : (body : List ℕ) {more : List ℕ} {us : List Token} {tail : List ℕ} → IsBlockBody body → ReadsTo more us tail → ReadsTo (codes "/*" ++ (body ++ (codes "*/" ++ more))) us tail
+block_remark body {more} {us} {tail} is r = record {
+  pieces = block body ∷ r.pieces;
+  whole = ap (λ z. codes "/*" ++ (body ++ (codes "*/" ++ z))) r.whole
+      ∙ ap (λ z. codes "/*" ++ z) (sym (append_assoc body (codes "*/") (shown_all r.pieces ++ tail)) ∙ sym (append_assoc (body ++ codes "*/") (shown_all r.pieces) tail));
+  in_order = r.in_order;
+  each = (is, r.each);
+}
+
+-- a space
 pub space : {more : List ℕ} {us : List Token} {tail : List ℕ} → ReadsTo more us tail → ReadsTo (32 ∷ more) us tail
 space r = skip 32 refl r
 
+-- a line feed
 pub line_feed : {more : List ℕ} {us : List Token} {tail : List ℕ} → ReadsTo more us tail → ReadsTo (10 ∷ more) us tail
 line_feed r = skip 10 refl r
 
@@ -68,33 +80,46 @@ quoted w is apart r = named w (spelled w is) apart r
 pub finish : (tail : List ℕ) → ReadsTo tail [] tail
 finish tail = record { pieces = []; whole = refl; in_order = refl; each = tt }
 
--- what begins with a space, or with this mark, is apart from words, numbers and literals
+-- a space is apart from words, numbers and literals
 pub apart_space : {cs : List ℕ} → Apart (32 ∷ cs)
 apart_space {cs} = apart_at 32 cs refl refl refl refl
 
+-- so is a line feed
 pub apart_line_feed : {cs : List ℕ} → Apart (10 ∷ cs)
 apart_line_feed {cs} = apart_at 10 cs refl refl refl refl
 
+-- (
 pub apart_open : {cs : List ℕ} → Apart (40 ∷ cs)
 apart_open {cs} = apart_at 40 cs refl refl refl refl
 
+-- )
 pub apart_close : {cs : List ℕ} → Apart (41 ∷ cs)
 apart_close {cs} = apart_at 41 cs refl refl refl refl
 
+-- ,
 pub apart_comma : {cs : List ℕ} → Apart (44 ∷ cs)
 apart_comma {cs} = apart_at 44 cs refl refl refl refl
 
+-- :
 pub apart_colon : {cs : List ℕ} → Apart (58 ∷ cs)
 apart_colon {cs} = apart_at 58 cs refl refl refl refl
 
+-- ;
 pub apart_semicolon : {cs : List ℕ} → Apart (59 ∷ cs)
 apart_semicolon {cs} = apart_at 59 cs refl refl refl refl
 
+-- [
 pub apart_open_bracket : {cs : List ℕ} → Apart (91 ∷ cs)
 apart_open_bracket {cs} = apart_at 91 cs refl refl refl refl
 
+-- ]
 pub apart_close_bracket : {cs : List ℕ} → Apart (93 ∷ cs)
 apart_close_bracket {cs} = apart_at 93 cs refl refl refl refl
 
+-- }
 pub apart_close_brace : {cs : List ℕ} → Apart (125 ∷ cs)
 apart_close_brace {cs} = apart_at 125 cs refl refl refl refl
+
+-- so is the text's end
+pub apart_end : Apart []
+apart_end = record { name = tt; digit = tt; hexadecimal = tt; quote = tt }

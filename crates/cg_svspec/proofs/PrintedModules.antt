@@ -24,6 +24,7 @@ either_reads false w is more us tail r =
     (number 0 _ _ tail (omega arith) Pieces.apart_close_bracket
     (Pieces.one 93 refl refl (Pieces.space r))))))
 
+-- the range of a width
 range_reads : (w : ℕ) → IsWidth w → (more : List ℕ) (us : List Token) (tail : List ℕ) → ReadsTo more us tail → ReadsTo (range_text w ++ more) (range_tokens w ++ us) tail
 unfolding range_text range_tokens
 range_reads w is more us tail r = either_reads (eqb w 1) w is.1 more us tail r
@@ -33,6 +34,7 @@ side_reads : (b : Bool) (more : List ℕ) (us : List Token) (tail : List ℕ) �
 side_reads true more us tail r = Pieces.quoted (codes "input") refl Pieces.apart_space (Pieces.space r)
 side_reads false more us tail r = Pieces.quoted (codes "output") refl Pieces.apart_space (Pieces.space r)
 
+-- a port
 port_reads : (p : Port) → IsPrintablePort p → (more : List ℕ) (us : List Token) (tail : List ℕ) → Apart more → ReadsTo more us tail → ReadsTo (port_text p ++ more) (port_tokens p ++ us) tail
 unfolding port_text port_tokens
 port_reads p is more us tail apart r =
@@ -47,6 +49,7 @@ behind_port : (ps : List Port) (more : List ℕ) → Apart more → Apart (ports
 behind_port [] more apart = apart
 behind_port (p ∷ ps) more apart = Pieces.apart_comma
 
+-- the ports behind the first one
 ports_after_reads : (ps : List Port) → AllOf IsPrintablePort ps → (more : List ℕ) (us : List Token) (tail : List ℕ) → Apart more → ReadsTo more us tail → ReadsTo (ports_text (codes ",\n") ps ++ more) (ports_after ps ++ us) tail
 ports_after_reads [] is more us tail apart r = r
 ports_after_reads (p ∷ ps) is more us tail apart r =
@@ -55,6 +58,7 @@ ports_after_reads (p ∷ ps) is more us tail apart r =
     (port_reads p is.0 _ _ tail (behind_port ps more apart)
     (ports_after_reads ps is.1 more us tail apart r))))
 
+-- all ports
 ports_reads : (ps : List Port) → AllOf IsPrintablePort ps → (more : List ℕ) (us : List Token) (tail : List ℕ) → Apart more → ReadsTo more us tail → ReadsTo (ports_text [] ps ++ more) (ports_tokens ps ++ us) tail
 ports_reads [] is more us tail apart r = r
 ports_reads (p ∷ ps) is more us tail apart r =
@@ -62,6 +66,7 @@ ports_reads (p ∷ ps) is more us tail apart r =
     (port_reads p is.0 _ _ tail (behind_port ps more apart)
     (ports_after_reads ps is.1 more us tail apart r))
 
+-- a parameter
 parameter_reads : (p : Parameter) → IsPrintableParameter p → (more : List ℕ) (us : List Token) (tail : List ℕ) → ReadsTo more us tail → ReadsTo (parameter_text p ++ more) (parameter_tokens p ++ us) tail
 unfolding parameter_text parameter_tokens
 parameter_reads p is more us tail r =
@@ -71,6 +76,7 @@ parameter_reads p is more us tail r =
     (Pieces.one 40 refl refl
     (value_reads p.value is.1 _ _ tail Pieces.apart_close (Pieces.one 41 refl refl r)))))
 
+-- the parameters behind the first one, and the closing parenthesis
 parameters_after_reads : (ps : List Parameter) → AllOf IsPrintableParameter ps → (more : List ℕ) (us : List Token) (tail : List ℕ) → ReadsTo more us tail → ReadsTo (parameters_after_text (codes ", ") ps ++ (codes ") " ++ more)) (parameters_after ps ++ us) tail
 parameters_after_reads [] is more us tail r = Pieces.one 41 refl refl (Pieces.space r)
 parameters_after_reads (p ∷ ps) is more us tail r =
@@ -79,6 +85,7 @@ parameters_after_reads (p ∷ ps) is more us tail r =
     (parameter_reads p is.0 _ _ tail
     (parameters_after_reads ps is.1 more us tail r))))
 
+-- all parameters of an instance
 parameters_reads : (ps : List Parameter) → AllOf IsPrintableParameter ps → (more : List ℕ) (us : List Token) (tail : List ℕ) → ReadsTo more us tail → ReadsTo (parameters_text ps ++ more) (parameters_tokens ps ++ us) tail
 parameters_reads [] is more us tail r = r
 parameters_reads (p ∷ ps) is more us tail r =
@@ -87,6 +94,7 @@ parameters_reads (p ∷ ps) is more us tail r =
     (parameter_reads p is.0 _ _ tail
     (parameters_after_reads ps is.1 more us tail r))))
 
+-- a connection
 connection_reads : (c : Connection) → IsPrintableConnection c → (more : List ℕ) (us : List Token) (tail : List ℕ) → ReadsTo more us tail → ReadsTo (connection_text c ++ more) (connection_tokens c ++ us) tail
 unfolding connection_text connection_tokens
 connection_reads c is more us tail r =
@@ -97,6 +105,7 @@ connection_reads c is more us tail r =
     (Pieces.one 40 refl refl
     (expression_reads c.value is.1.0 _ _ tail Pieces.apart_close (Pieces.one 41 refl refl r)))))))))
 
+-- the connections behind the first one
 connections_after_reads : (cs : List Connection) → AllOf IsPrintableConnection cs → (more : List ℕ) (us : List Token) (tail : List ℕ) → ReadsTo more us tail → ReadsTo (connections_text (codes ",\n") cs ++ more) (connections_after cs ++ us) tail
 connections_after_reads [] is more us tail r = r
 connections_after_reads (c ∷ cs) is more us tail r =
@@ -105,6 +114,7 @@ connections_after_reads (c ∷ cs) is more us tail r =
     (connection_reads c is.0 _ _ tail
     (connections_after_reads cs is.1 more us tail r))))
 
+-- all connections of an instance
 connections_reads : (cs : List Connection) → AllOf IsPrintableConnection cs → (more : List ℕ) (us : List Token) (tail : List ℕ) → ReadsTo more us tail → ReadsTo (connections_text [] cs ++ more) (connections_tokens cs ++ us) tail
 connections_reads [] is more us tail r = r
 connections_reads (c ∷ cs) is more us tail r =
@@ -112,6 +122,7 @@ connections_reads (c ∷ cs) is more us tail r =
     (connection_reads c is.0 _ _ tail
     (connections_after_reads cs is.1 more us tail r))
 
+-- an entry
 entry_reads : (x : Entry) → IsPrintableEntry x → (more : List ℕ) (us : List Token) (tail : List ℕ) → ReadsTo more us tail → ReadsTo (entry_text x ++ more) (entry_tokens x ++ us) tail
 entry_reads (tree.wire w n) is more us tail r =
     simp append_assoc
@@ -137,6 +148,7 @@ entry_reads (tree.inst m ps n cs) is more us tail r =
     (connections_reads cs is.4 _ _ tail
     (Pieces.line_feed (Pieces.space (Pieces.space (Pieces.one 41 refl refl (Pieces.one 59 refl refl r)))))))))))))
 
+-- all entries, each on a line of its own
 entries_reads : (xs : List Entry) → AllOf IsPrintableEntry xs → (more : List ℕ) (us : List Token) (tail : List ℕ) → ReadsTo more us tail → ReadsTo (entries_text xs ++ more) (entries_tokens xs ++ us) tail
 entries_reads [] is more us tail r = r
 entries_reads (x ∷ xs) is more us tail r =
@@ -158,6 +170,7 @@ module_reads m is more us tail r =
     (entries_reads m.entries is.entries _ _ tail
     (Pieces.quoted (codes "endmodule") refl Pieces.apart_line_feed (Pieces.line_feed r))))))))))))))))
 
+-- what is printed stands for just the module that was printed
 pub printed_stands : PrintedTextStands
 printed_stands m is = record {
   trees = (is, tt);

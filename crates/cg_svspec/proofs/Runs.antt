@@ -1,5 +1,5 @@
 -- Runs of characters of one kind, and what stands behind them.
-use Rattle.std.proofs.Common.{◌≡◌, ℕ, ◌<◌, ◌≤◌, Bool, true, false, ◌&&◌, List, [], ◌∷◌, ◌++◌, length, refl, ap, sym, subst, arith}
+use Rattle.std.proofs.Common.{◌≡◌, ℕ, ◌<◌, ◌≤◌, Bool, true, false, ◌&&◌, ◌||◌, List, [], ◌∷◌, ◌++◌, length, refl, ap, sym, subst, arith}
 use Rattle.std.specs.List.{list_all}
 use Rattle.cg_svspec.specs.Characters.{Each}
 
@@ -12,6 +12,16 @@ StartsNot p (c ∷ cs) = p c ≡ false
 pub both_pass : (a b : Bool) → (a && b) ≡ true → (a ≡ true) × (b ≡ true)
 both_pass true b h = (refl, h)
 both_pass false b h = cc
+
+-- the first test fails where their disjunction does
+pub or_false_left : (a b : Bool) → (a || b) ≡ false → a ≡ false
+or_false_left true b h = cc
+or_false_left false b h = refl
+
+-- the second test fails where their disjunction does
+pub or_false_right : (a b : Bool) → (a || b) ≡ false → b ≡ false
+or_false_right true b h = cc
+or_false_right false b h = h
 
 -- each character passes where the test of them all does, which computes at a text that is written out
 pub each_passes : (p : ℕ → Bool) (xs : List ℕ) → list_all p xs ≡ true → Each p xs

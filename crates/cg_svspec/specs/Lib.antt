@@ -10,3 +10,4 @@ pub mod Bits
 pub mod Value
 pub mod WellFormed
 pub mod Register
+pub mod Parse

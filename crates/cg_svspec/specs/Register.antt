@@ -1,7 +1,7 @@
 -- Register modules, and what a valuation of one shows.
-use Rattle.std.specs.Prelude.{◌≡◌, ℕ, ◌≤◌, true, false, cond, List, [], ◌∷◌, ◌++◌, codes, Option, Some, None}
+use Rattle.std.specs.Prelude.{◌≡◌, ℕ, ◌≤◌, true, false, List, [], ◌∷◌, ◌++◌, codes, Option, Some}
 use Rattle.std.specs.Str.{bytes_eq}
-use Rattle.cg_svspec.specs.Tree.{Expression, lit, Port, Entry, wire, drive, assign, inst, Module}
+use Rattle.cg_svspec.specs.Tree.{Expression, lit, Port, Entry, inst, Module}
 use Rattle.cg_svspec.specs.Printable.{AllOf}
 use Rattle.cg_svspec.specs.Value.{Values, Valuation, HasWidths, parameter_at, flop_name}
 use Rattle.cg_svspec.specs.WellFormed.{WellFormed}

@@ -95,6 +95,10 @@ Fit (return ∷ ps) tail = Fit ps tail
 Fit (line body ∷ ps) tail = Each is_inside_line body × EndsLine (shown_all ps ++ tail) × Fit ps tail
 Fit (block body ∷ ps) tail = IsBlockBody body × Fit ps tail
 
+-- neither a token, a blank nor a comment begins the text
+abbrev pub NothingBegins : List ℕ → Type 0
+NothingBegins text = (p : Piece) (tail : List ℕ) → Fit (p ∷ []) tail → text ≡ shown p ++ tail → ⊥
+
 -- The text begins with these tokens, blanks and comments between them, and `tail` is left.
 pub record ReadsTo (text : List ℕ) (tokens : List Token) (tail : List ℕ) : Type 0 where
   pub pieces : List Piece

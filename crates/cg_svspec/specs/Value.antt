@@ -1,5 +1,5 @@
 -- The value of an expression, and a valuation of a module: one equation for each driver, in no order.
-use Rattle.std.specs.Prelude.{◌≡◌, ℕ, suc, Bool, true, false, not, ◌&&◌, ◌||◌, List, [], ◌∷◌, ◌++◌, map, take, drop, ◌-◌, codes, length, Option, Some, None, cond, if◌then◌else◌}
+use Rattle.std.specs.Prelude.{◌≡◌, ℕ, suc, not, ◌&&◌, ◌||◌, List, [], ◌∷◌, ◌++◌, map, take, drop, ◌-◌, codes, length, Option, Some, None, cond}
 use Rattle.std.specs.Str.{bytes_eq}
 use Rattle.cg_svspec.specs.Bits.{Bits, bits, zipped, any_bit, same_bits, chosen}
 use Rattle.cg_svspec.specs.Printable.{AllOf}

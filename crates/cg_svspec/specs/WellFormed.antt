@@ -1,5 +1,5 @@
 -- Well-formed modules (IEEE 1800-2017, clauses 6.10, 10.3, 11.6 and 23.3, for the subset).
-use Rattle.std.specs.Prelude.{◌≡◌, ℕ, suc, ◌+◌, ◌-◌, ◌*◌, ◌^◌, ◌<◌, ◌≤◌, ◌⊎◌, Bool, true, false, not, ◌&&◌, ◌||◌, cond, List, [], ◌∷◌, ◌++◌, length, codes, Option, Some, None, nat_eq}
+use Rattle.std.specs.Prelude.{◌≡◌, ℕ, suc, ◌+◌, ◌-◌, ◌*◌, ◌^◌, ◌<◌, ◌≤◌, ◌⊎◌, Bool, false, not, ◌&&◌, ◌||◌, cond, List, [], ◌∷◌, ◌++◌, length, codes, Option, Some, None, nat_eq}
 use Rattle.std.specs.List.{starts_with}
 use Rattle.std.specs.Str.{bytes_eq}
 use Rattle.cg_svspec.specs.Tree.{Expression, net, cut, lit, cat, inv, any, and, or, equal, pick, Expressions, none, more, Port, Parameter, Connection, Entry, wire, drive, assign, inst, Module}
@@ -175,7 +175,7 @@ abbrev pub is_output : List (List ℕ) → List ℕ → Connection → Bool
 is_output inputs m c =
     cond (is_part m) (ends_with c.name (codes "_o"))
     (not (is_input inputs c.value) && (ends_with c.name (codes "_o")
-        || ((begins_with c.name (codes "h_") && ends_with c.name (codes "_rsp")) || (begins_with c.name (codes "d_") && ends_with c.name (codes "_req")))))
+    || ((begins_with c.name (codes "h_") && ends_with c.name (codes "_rsp")) || (begins_with c.name (codes "d_") && ends_with c.name (codes "_req")))))
 
 -- the nets of a concatenation of bare nets
 abbrev pub bare_parts : Expressions → Option (List (List ℕ))
