@@ -1,0 +1,2 @@
+pub mod NamesAsText
+pub mod Alls

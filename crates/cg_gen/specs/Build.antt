@@ -13,7 +13,8 @@ use Rattle.cg_desc.specs.declared.block.Item.TheVariants.{Reg}
 use Rattle.cg_desc.specs.declared.block.LaidRow.{LaidRow}
 use Rattle.cg_desc.specs.declared.block.LaidFace.{LaidFace}
 use Rattle.cg_regspec.specs.RegisterModule.{register_module, register_module_name}
-use Rattle.cg_gen.specs.Form.{Form, IsForm, is_blank}
+use Rattle.cg_gen.specs.declared.form.Form.{Form}
+use Rattle.cg_gen.specs.Form.{IsForm, is_blank}
 
 -- ---- the interface of a form
 

@@ -5,11 +5,7 @@ use Rattle.std.specs.Str.{str_to_ascii_lowercase}
 use Rattle.cg_svspec.specs.Characters.{IsName}
 use Rattle.cg_svspec.specs.Names.{first_repeat}
 use Rattle.cg_svspec.specs.Printable.{AllOf}
-
--- a block's name, and the names of its registers
-pub record Form : Type 0 where
-  pub block : List ℕ
-  pub registers : List (List ℕ)
+use Rattle.cg_gen.specs.declared.form.Form.{Form}
 
 -- space, tab, line feed and carriage return
 abbrev pub is_blank : ℕ → Bool
@@ -22,17 +18,17 @@ without_blanks false (c ∷ cs) = if is_blank c then without_blanks false cs els
 without_blanks true (c ∷ cs) = c ∷ without_blanks (not (c == 34)) cs
 
 -- what stands before the block's name, between it and the registers, and behind them
-abbrev pub head : List ℕ
+unfoldable pub head : List ℕ
 head = codes "{\"name\":\""
 
-abbrev pub middle : List ℕ
+unfoldable pub middle : List ℕ
 middle = codes "\",\"clocking\":[{\"clock\":\"clk_i\",\"reset\":\"rst_ni\"}],\"bus_interfaces\":[{\"protocol\":\"tlul\",\"direction\":\"device\"}],\"registers\":["
 
 abbrev pub tail : List ℕ
 tail = codes "]}"
 
 -- one register of this name: one field of all 32 bits, which software reads and writes
-abbrev pub register_text : List ℕ → List ℕ
+unfoldable pub register_text : List ℕ → List ℕ
 register_text n = codes "{\"name\":\"" ++ (n ++ codes "\",\"swaccess\":\"rw\",\"fields\":[{\"bits\":\"31:0\"}]}")
 
 -- the registers, the first behind this separator

@@ -2,8 +2,8 @@ ghost use Rattle.std.specs.Prelude.{◌≡◌, ◌++◌, ◌<◌, ◌≤◌, ◌
 ghost use Rattle.std.specs.Str.{str_to_ascii_lowercase};
 ghost use Rattle.cg_svspec.specs.Characters.{is_first, is_name_character, is_keyword, IsWord, IsName, Each};
 ghost use Rattle.cg_svspec.specs.Printable.{AllOf};
-ghost use Rattle.cg_gen.specs.Form.{is_blank, without_blanks, compact, register_text, registers_text, IsShortName, IsForm};
-ghost use Rattle.cg_gen.specs.FormReading.{strings_of, second, register_names, candidate};
+ghost use Rattle.cg_gen.specs.Form.{is_blank, without_blanks, head, middle, compact, register_text, registers_text, IsShortName, IsForm};
+ghost use Rattle.cg_gen.specs.FormReading.{strings_of, second, names_from, candidate};
 
 use cg_base::{List, Memory, Text};
 use std::alloc::Global;
@@ -121,4 +121,76 @@ fn short_name(alloc: Global, bytes: &[u8]) -> Result<Option<Text>, Memory>
         return Ok(None);
     }
     Ok(Some(Text::of(alloc, word)?))
+}
+
+/// The names of the registers, whose first string is the first of these, `None` where one is no name.
+#[tactic(auto, unfolding(crate::specs::FormReading::names_from))]
+fn registers(alloc: Global, strings: &[List<u8>]) -> Result<Option<List<Text>>, Memory>
+    ensures names { IfOk result (λ o. IfSome o (λ ns. (ns ≡ names_from 0 strings.now) × AllOf IsShortName ns)) }
+    ensures none { IfOk result (λ o. IfNone o (AllOf IsShortName (names_from 0 strings.now) → ⊥)) }
+{
+    let mut names = List::new(alloc);
+    let mut place = 0u8;
+    for string in strings {
+        if place == 1 {
+            let Some(name) = short_name(alloc, string.as_slice())? else {
+                return Ok(None);
+            };
+            names.push(name)?;
+        }
+        place = if place == 6 { 0 } else { place + 1 };
+    }
+    Ok(Some(names))
+}
+
+#[tactic(auto, unfolding(crate::specs::Form::head))]
+fn head() -> &'static str
+    ensures { result.now ≡ head }
+{
+    "{\"name\":\""
+}
+
+#[tactic(auto, unfolding(crate::specs::Form::middle))]
+fn middle() -> &'static str
+    ensures { result.now ≡ middle }
+{
+    "\",\"clocking\":[{\"clock\":\"clk_i\",\"reset\":\"rst_ni\"}],\"bus_interfaces\":[{\"protocol\":\"tlul\",\"direction\":\"device\"}],\"registers\":["
+}
+
+/// The form's own text, without any blank.
+#[tactic(auto, using(crate::proofs::Alls::appends))]
+fn compact(alloc: Global, form: &Form) -> Result<Text, Memory>
+    ensures { IfOk result (λ t. t ≡ compact form.now) }
+{
+    let mut text = Text::of(alloc, head())?;
+    text.add(form.block.as_str())?;
+    text.add(middle())?;
+    add_registers(&mut text, form.registers.as_slice())?;
+    text.add("]}")?;
+    Ok(text)
+}
+
+#[tactic(auto, using(crate::proofs::Alls::appends), unfolding(crate::specs::Form::register_text))]
+fn add_register(text: &mut Text, name: &str) -> Result<(), Memory>
+    ensures { OnOk result (text.new ≡ text.old ++ register_text name.now) }
+{
+    text.add("{\"name\":\"")?;
+    text.add(name)?;
+    text.add("\",\"swaccess\":\"rw\",\"fields\":[{\"bits\":\"31:0\"}]}")?;
+    Ok(())
+}
+
+#[tactic(auto, using(crate::proofs::Alls::appends))]
+fn add_registers(text: &mut Text, names: &[Text]) -> Result<(), Memory>
+    ensures { OnOk result (text.new ≡ text.old ++ registers_text [] names.now) }
+{
+    let mut first = true;
+    for name in names {
+        if !first {
+            text.add(",")?;
+        }
+        add_register(text, name.as_str())?;
+        first = false;
+    }
+    Ok(())
 }
