@@ -64,52 +64,53 @@ pub fn print_expression(alloc: Global, out: &mut Text, expr: &Expr) -> Result<()
             Ok(())
         }
         Expr::Not(part) => {
-            out.add("(~")?;
-            print_expression(alloc, out, part)?;
-            out.add(")")?;
+            print_between(alloc, out, "(~", part, ")")?;
             Ok(())
         }
         Expr::Any(part) => {
-            out.add("(|")?;
-            print_expression(alloc, out, part)?;
-            out.add(")")?;
+            print_between(alloc, out, "(|", part, ")")?;
             Ok(())
         }
         Expr::And(left, right) => {
-            out.add("(")?;
-            print_expression(alloc, out, left)?;
-            out.add(" & ")?;
-            print_expression(alloc, out, right)?;
-            out.add(")")?;
+            print_between(alloc, out, "(", left, " & ")?;
+            print_between(alloc, out, "", right, ")")?;
             Ok(())
         }
         Expr::Or(left, right) => {
-            out.add("(")?;
-            print_expression(alloc, out, left)?;
-            out.add(" | ")?;
-            print_expression(alloc, out, right)?;
-            out.add(")")?;
+            print_between(alloc, out, "(", left, " | ")?;
+            print_between(alloc, out, "", right, ")")?;
             Ok(())
         }
         Expr::Equal(left, right) => {
-            out.add("(")?;
-            print_expression(alloc, out, left)?;
-            out.add(" == ")?;
-            print_expression(alloc, out, right)?;
-            out.add(")")?;
+            print_between(alloc, out, "(", left, " == ")?;
+            print_between(alloc, out, "", right, ")")?;
             Ok(())
         }
         Expr::Pick(condition, one, zero) => {
-            out.add("(")?;
-            print_expression(alloc, out, condition)?;
-            out.add(" ? ")?;
-            print_expression(alloc, out, one)?;
-            out.add(" : ")?;
-            print_expression(alloc, out, zero)?;
-            out.add(")")?;
+            print_between(alloc, out, "(", condition, " ? ")?;
+            print_between(alloc, out, "", one, " : ")?;
+            print_between(alloc, out, "", zero, ")")?;
             Ok(())
         }
     }
+}
+
+/// Adds an expression with a text before it and one after it.
+#[cycle(printing)]
+#[tactic(auto, using(crate::proofs::Views::views))]
+fn print_between(
+    alloc: Global,
+    out: &mut Text,
+    before: &str,
+    expr: &Expr,
+    after: &str,
+) -> Result<(), Memory>
+    ensures { OnOk result (out.new ≡ out.old ++ (before.now ++ (expression_text (expression_of expr.now) ++ after.now))) }
+{
+    out.add(before)?;
+    print_expression(alloc, out, expr)?;
+    out.add(after)?;
+    Ok(())
 }
 
 /// Adds the parts of a concatenation, with commas between.
