@@ -3,8 +3,12 @@
 
 mod entries;
 mod expression;
+mod fault;
 mod layout;
+mod names;
 mod tree;
 
+pub use fault::SvRegFault;
 pub use layout::print;
+pub use names::{first_repeat, names_differ};
 pub use tree::{Conn, Entry, Expr, Module, Param, Port};
