@@ -1,5 +1,5 @@
 -- What the program's trees stand for: the trees of the grammar, without where they lie in memory.
-use Rattle.std.specs.Prelude.{List, map, Some, None}
+use Rattle.std.specs.Prelude.{ℕ, List, map, Some, None}
 use Rattle.cg_svspec.specs.Tree as tree
 use Rattle.cg_sv.specs.declared.tree.Expr as expr
 use Rattle.cg_sv.specs.declared.tree.Expr.TheOpen as level
@@ -27,14 +27,23 @@ expression_level (level.Pick c x y) = tree.pick c.value x.value y.value
 unfoldable pub expression_of : expr.Expr → tree.Expression
 expression_of = expr.fold-Expr tree.Expression expression_level
 
+-- a parameter with this name and value
+abbrev pub parameter : List ℕ → tree.Expression → tree.Parameter
+parameter n x = record { name = n; value = x }
+
+-- a connection with this name and value
+abbrev pub connection : List ℕ → tree.Expression → tree.Connection
+connection n x = record { name = n; value = x }
+
+-- the port, parameter, connection, entry or module for which a value of the program stands
 abbrev pub port_of : port.Port → tree.Port
 port_of p = record { input = p.input; width = p.width; name = p.name }
 
 abbrev pub parameter_of : param.Param → tree.Parameter
-parameter_of p = record { name = p.name; value = expression_of p.value }
+parameter_of p = parameter p.name (expression_of p.value)
 
 abbrev pub connection_of : conn.Conn → tree.Connection
-connection_of c = record { name = c.name; value = expression_of c.value }
+connection_of c = connection c.name (expression_of c.value)
 
 abbrev pub entry_of : entry.Entry → tree.Entry
 entry_of (entries.Wire w n None) = tree.wire w n

@@ -5,6 +5,7 @@ mod entries;
 mod expression;
 mod fault;
 mod layout;
+pub mod make;
 mod names;
 mod tree;
 
