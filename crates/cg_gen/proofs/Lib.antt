@@ -1,2 +1,3 @@
 pub mod NamesAsText
 pub mod Alls
+pub mod FormBack

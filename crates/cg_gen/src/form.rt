@@ -1,11 +1,14 @@
 ghost use Rattle.std.specs.Prelude.{◌≡◌, ◌++◌, ◌<◌, ◌≤◌, ◌↔◌, [], ◌∷◌, map, codes, false, length, drop, IsTrue, OnOk, IfOk, IfSome, IfNone, MatchOption, None};
 ghost use Rattle.std.specs.Str.{str_to_ascii_lowercase};
 ghost use Rattle.cg_svspec.specs.Characters.{is_first, is_name_character, is_keyword, IsWord, IsName, Each};
+ghost use Rattle.cg_svspec.specs.Names.{first_repeat};
 ghost use Rattle.cg_svspec.specs.Printable.{AllOf};
+ghost use Rattle.cg_gen.specs.declared.form.Form.{Form};
 ghost use Rattle.cg_gen.specs.Form.{is_blank, without_blanks, head, middle, compact, register_text, registers_text, IsShortName, IsForm};
 ghost use Rattle.cg_gen.specs.FormReading.{strings_of, second, names_from, candidate};
 
 use cg_base::{List, Memory, Text};
+use cg_sv::first_repeat;
 use std::alloc::Global;
 use std::str;
 
@@ -193,4 +196,83 @@ fn add_registers(text: &mut Text, names: &[Text]) -> Result<(), Memory>
         first = false;
     }
     Ok(())
+}
+
+fn lower_names(alloc: Global, names: &[Text]) -> Result<List<Text>, Memory>
+    ensures { IfOk result (λ ns. ns ≡ map str_to_ascii_lowercase names.now) }
+{
+    let mut lower = List::new(alloc);
+    for name in names {
+        lower.push(Text::from_string(name.as_str().to_ascii_lowercase(alloc)?))?;
+    }
+    Ok(lower)
+}
+
+fn as_strs(alloc: Global, names: &[Text]) -> Result<Vec<&str>, Memory>
+    ensures { IfOk result (λ v. map (λ s. s.now) v.items ≡ names.entry.now) }
+{
+    let mut strs = Vec::new(alloc);
+    for name in names {
+        strs.push(name.as_str())?;
+    }
+    Ok(strs)
+}
+
+/// Whether the names differ without regard to ASCII case.
+fn differ(alloc: Global, names: &[Text]) -> Result<bool, Memory>
+    ensures { IfOk result (λ b. IsTrue b ↔ (first_repeat (map str_to_ascii_lowercase names.now) ≡ None)) }
+{
+    let lower = lower_names(alloc, names)?;
+    let strs = as_strs(alloc, lower.as_slice())?;
+    Ok(first_repeat(alloc, strs.as_slice())?.is_none())
+}
+
+/// The form that a text with these strings could be, `None` where one of the names is none.
+fn candidate(alloc: Global, strings: &[List<u8>]) -> Result<Option<Form>, Memory>
+    ensures some { IfOk result (λ o. IfSome o (λ f. (f ≡ candidate strings.now) × IsShortName f.block × AllOf IsShortName f.registers)) }
+    ensures none { IfOk result (λ o. IfNone o (IsShortName (candidate strings.now).block → AllOf IsShortName (candidate strings.now).registers → ⊥)) }
+{
+    let [_, block, ..] = strings else {
+        return Ok(None);
+    };
+    let Some(block) = short_name(alloc, block.as_slice())? else {
+        return Ok(None);
+    };
+    let behind = if strings.len() < 13 { strings.len() } else { 13 };
+    let Some(registers) = registers(alloc, &strings[behind..])? else {
+        return Ok(None);
+    };
+    Ok(Some(Form { block, registers }))
+}
+
+/// Whether the text without blanks is this form's own, with 1 to 2,048 registers of different names.
+fn is_form(alloc: Global, kept: &[u8], form: &Form) -> Result<bool, Memory>
+    ensures { IfOk result (λ b. IsTrue b ↔ ((kept.now ≡ compact form.now) × (0 < length form.now.registers) × (length form.now.registers ≤ 2048) × (first_repeat (map str_to_ascii_lowercase form.now.registers) ≡ None))) }
+{
+    let names = form.registers.as_slice();
+    if names.is_empty() || names.len() > 2048 {
+        return Ok(false);
+    }
+    if kept != compact(alloc, form)?.as_str().as_bytes() {
+        return Ok(false);
+    }
+    differ(alloc, names)
+}
+
+/// Reads the text as one of the form, `None` exactly where it is none.
+#[tactic(auto, using(crate::proofs::FormBack::candidate_back))]
+pub fn read_form(alloc: Global, text: &[u8]) -> Result<Option<Form>, Memory>
+    ensures form { IfOk result (λ o. IfSome o (λ f. IsForm text.now f)) }
+    ensures none { IfOk result (λ o. IfNone o ((f : Form) → IsForm text.now f → ⊥)) }
+{
+    let kept = without_blanks(alloc, text)?;
+    let strings = strings(alloc, &kept)?;
+    let Some(form) = candidate(alloc, strings.as_slice())? else {
+        return Ok(None);
+    };
+    if is_form(alloc, &kept, &form)? {
+        Ok(Some(form))
+    } else {
+        Ok(None)
+    }
 }
