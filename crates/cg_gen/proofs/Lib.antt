@@ -1,3 +1,4 @@
 pub mod NamesAsText
 pub mod Alls
 pub mod FormBack
+pub mod PlainFaces

@@ -3,6 +3,7 @@
 
 mod due;
 mod ending;
+mod face;
 mod form;
 mod perform;
 mod words;
