@@ -26,10 +26,8 @@ fn read_from(
     if bytes.len() > limit {
         return Ok(Found::Large);
     }
-    match into.extend_from_slice(bytes) {
-        Ok(()) => Ok(Found::Yes),
-        Err(_) => Err(StoreFault::Memory),
-    }
+    into.extend_from_slice(bytes)?;
+    Ok(Found::Yes)
 }
 
 /// A store in memory that fails at the calls that it is told.
