@@ -15,10 +15,10 @@ least_near to n k j near over (inr more) = mul-le k to j to more (omega arith)
 -- a multiple that is not below n, and less than one step above it, is the least one
 pub IsLeastMultiple-near : (to n k : ℕ) → n ≤ k * to → k * to < n + to → IsLeastMultiple to n (k * to)
 IsLeastMultiple-near to n k reaches near = record {
-    multiple = (k, refl);
-    reaches = reaches;
-    least = λ j over. least_near to n k j near over (cases_lt j k)
-  }
+  multiple = (k, refl);
+  reaches = reaches;
+  least = λ j over. least_near to n k j near over (cases_lt j k);
+}
 
 -- there is one least multiple
 pub IsLeastMultiple-unique : (to n a b : ℕ) → IsLeastMultiple to n a → IsLeastMultiple to n b → a ≡ b

@@ -19,7 +19,7 @@ abbrev order : List ℕ → List ℕ → Ordering
 order = slice_cmp nat_cmp
 
 find_entry : {A : Type 0} (es : List (String A × List ℕ)) (q : List ℕ)
-  → entries.find order q (map (λ e. (string_bytes e.0, e.1)) es) ≡ lookup (is_at (λ k. slice_cmp nat_cmp q (string_bytes k))) es
+    → entries.find order q (map (λ e. (string_bytes e.0, e.1)) es) ≡ lookup (is_at (λ k. slice_cmp nat_cmp q (string_bytes k))) es
 find_entry [] q = refl
 find_entry (e ∷ es) q = ap (cond (eq_by_cmp order q (string_bytes e.0)) (Some e.1)) (find_entry es q)
 
@@ -32,23 +32,23 @@ turned bs q = sym (is_eq-slice_cmp bs q) ∙ (eq_by_cmp_equiv nat_list_cmp_total
 
 module _ {A : Type 0} (bs : List ℕ) (m n : BTreeMap (String A) (List ℕ)) where
   answers : (w : Option (List ℕ)) → UpdatesBy string_cmp (λ k. slice_cmp nat_cmp bs (string_bytes k)) m n w
-    → (q : List ℕ) → fin.get (files_of_entries n.entries) q ≡ cond (eq_by_cmp order q bs) w (fin.get (files_of_entries m.entries) q)
+      → (q : List ℕ) → fin.get (files_of_entries n.entries) q ≡ cond (eq_by_cmp order q bs) w (fin.get (files_of_entries m.entries) q)
   answers w u q =
       get-files_of_entries n q
-        ∙ btree_map_updates_text bs m n w u q
-        ∙ ap (λ b. cond b w (get_by_text m q)) (turned bs q)
-        ∙ ap (cond (eq_by_cmp order q bs) w) (sym (get-files_of_entries m q))
+      ∙ btree_map_updates_text bs m n w u q
+      ∙ ap (λ b. cond b w (get_by_text m q)) (turned bs q)
+      ∙ ap (cond (eq_by_cmp order q bs) w) (sym (get-files_of_entries m q))
 
   -- a new value at a name is an insert
   pub files_inserted : (v : List ℕ) → UpdatesBy string_cmp (λ k. slice_cmp nat_cmp bs (string_bytes k)) m n (Some v)
-    → files_of_entries n.entries ≡ fin.insert (files_of_entries m.entries) bs v
+      → files_of_entries n.entries ≡ fin.insert (files_of_entries m.entries) bs v
   files_inserted v u =
       fin.same_map nat_list_cmp_total (fin.slice_cmp-IsAntisymmetric fin.nat_cmp-IsAntisymmetric) _ _ (λ q.
-        answers (Some v) u q ∙ sym (fin.get-insert nat_list_cmp_total (files_of_entries m.entries) bs v q))
+      answers (Some v) u q ∙ sym (fin.get-insert nat_list_cmp_total (files_of_entries m.entries) bs v q))
 
   -- no value at a name is a removal
   pub files_removed : UpdatesBy string_cmp (λ k. slice_cmp nat_cmp bs (string_bytes k)) m n None
-    → files_of_entries n.entries ≡ fin.remove (files_of_entries m.entries) bs
+      → files_of_entries n.entries ≡ fin.remove (files_of_entries m.entries) bs
   files_removed u =
       fin.same_map nat_list_cmp_total (fin.slice_cmp-IsAntisymmetric fin.nat_cmp-IsAntisymmetric) _ _ (λ q.
-        answers None u q ∙ sym (fin.get-remove nat_list_cmp_total (files_of_entries m.entries) bs q))
+      answers None u q ∙ sym (fin.get-remove nat_list_cmp_total (files_of_entries m.entries) bs q))

@@ -6,7 +6,7 @@ use Rattle.cg_base.proofs.arithmetic.align_up.Goals as goal
 pub returns-clause-least : goal.returns-clause-least
 returns-clause-least c =
     rw c.div_ceil.ensures
-      (IsLeastMultiple-div_ceil c.args.n c.args.to (omega (arith, c.requires.power.1, pow_pos c.requires.power.0)))
+    (IsLeastMultiple-div_ceil c.args.n c.args.to (omega (arith, c.requires.power.1, pow_pos c.requires.power.0)))
 
 pub returns-clause-bound : goal.returns-clause-bound
 returns-clause-bound c =
