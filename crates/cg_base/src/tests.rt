@@ -1,0 +1,3 @@
+mod memory_versions;
+mod system;
+mod values;
