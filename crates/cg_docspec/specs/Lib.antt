@@ -1,0 +1,11 @@
+pub mod Characters
+pub mod Place
+pub mod Tree
+pub mod Gap
+pub mod Quoted
+pub mod Lines
+pub mod Literal
+pub mod Document
+pub mod Depth
+pub mod SyntaxFault
+pub mod Machine

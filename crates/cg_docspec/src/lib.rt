@@ -1,0 +1,2 @@
+//! What a document is.
+#![tactic(auto)]
