@@ -1,3 +1,5 @@
 pub mod Basics
 pub mod Numerals
 pub mod Literals
+pub mod Left
+pub mod Back

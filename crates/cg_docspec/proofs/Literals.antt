@@ -2,16 +2,16 @@
 use Rattle.std.proofs.Common.{◌≡◌, ℕ, inl, inr, ◌+◌, ◌<◌, ◌≤◌, List, [], ◌∷◌, ◌++◌, Option, Some, None, refl, arith, true, false, ap, subst, ◌∙◌, sym, Bool}
 use Rattle.std.specs.Prelude.{ℤ, ◌/◌, cond, ◌&&◌, ◌||◌, ◌==◌, nat_le, codes}
 use Rattle.std.specs.Str.{bytes_eq}
-use Rattle.std.proofs.lemmas.Bool.{and_parts, or_parts}
+use Rattle.std.proofs.lemmas.Bool.{and_parts}
 use Rattle.std.proofs.lemmas.Bool.Decides.{nat_tests}
 use Rattle.std.proofs.lemmas.Slice.Eq.{bytes_eq-Decides}
 use Rattle.std.proofs.lemmas.Str.{encode_ascii}
 use lib.Utf8.{encodes, encode, next}
 use lib.Dec.{ltb}
 use Rattle.cg_docspec.specs.Characters.{plus, minus, point, capital_e, is_digit}
-use Rattle.cg_docspec.specs.Tree.{Kind, null, boolean, integer, string}
+use Rattle.cg_docspec.specs.Tree.{Kind, null, boolean, string}
 use Rattle.cg_docspec.specs.Lines.{is_nil}
-use Rattle.cg_docspec.specs.Literal.{is_e, is_sign, Integer, Number, Literal, true_literal, false_literal, null_literal, integer_literal, other_number}
+use Rattle.cg_docspec.specs.Literal.{is_e, is_sign, Literal, true_literal, false_literal, null_literal, integer_literal, other_number}
 use Rattle.cg_docspec.specs.Machine.Numeral.{skip_digits, some_digits, signed_digits, is_exponent, is_decimals, is_fraction, is_unsigned, is_number, integer_value, number_kind, is_word, is_literal, plain_kind}
 use Rattle.cg_docspec.proofs.Basics.{bool_cases, never, both, or_cases, if_true}
 use Rattle.cg_docspec.proofs.Numerals.{number_of, number_is, integer_of, integer_number, integer_is}

@@ -1,6 +1,6 @@
 -- The scan for number literals decides them, and gives the integers' values.
 use Rattle.std.proofs.Common.{◌≡◌, ℕ, inl, inr, ◌+◌, ◌*◌, ◌<◌, ◌≤◌, List, [], ◌∷◌, ◌++◌, Option, Some, None, refl, arith, true, false, nat_lt, ap, subst, ◌∙◌, sym, Bool}
-use Rattle.std.specs.Prelude.{ℤ, pos, ◌-ℤ◌, ◌-◌, ◌^◌, cond, ◌&&◌, ◌||◌, ◌==◌, option_and_then}
+use Rattle.std.specs.Prelude.{ℤ, pos, ◌-ℤ◌, ◌-◌, ◌^◌, cond, ◌&&◌, ◌==◌, option_and_then}
 use Rattle.std.proofs.lemmas.List.{append-nil}
 use Rattle.std.proofs.lemmas.Bool.{and_parts}
 use Rattle.std.proofs.lemmas.Bool.Decides.{nat_tests}

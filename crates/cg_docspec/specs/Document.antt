@@ -1,5 +1,5 @@
 -- A document by its grammar. Each family leads from a place and the text there to the place behind a part and the text left.
-use Rattle.std.specs.Prelude.{ℕ, ◌-◌, ◌≡◌, Bool, true, false, ◌&&◌, ◌==◌, not, if◌then◌else◌, List, [], ◌∷◌, ◌++◌, encode_utf8}
+use Rattle.std.specs.Prelude.{ℕ, ◌-◌, ◌≡◌, Bool, true, false, ◌&&◌, not, if◌then◌else◌, List, [], ◌∷◌, ◌++◌, encode_utf8}
 use lib.Utf8.{encodes}
 use Rattle.cg_docspec.specs.Characters.{single_quote, comma, colon, open_bracket, close_bracket, open_brace, close_brace, is_space, is_key, is_quote}
 use Rattle.cg_docspec.specs.Place.{Place, origin, next_place, place_after}

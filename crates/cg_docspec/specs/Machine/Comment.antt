@@ -1,5 +1,5 @@
 -- Comments.
-use Rattle.std.specs.Prelude.{ℕ, Bool, true, false, ◌&&◌, ◌||◌, ◌==◌, not, if◌then◌else◌, List, Option, Some, None}
+use Rattle.std.specs.Prelude.{ℕ, Bool, false, ◌&&◌, ◌||◌, ◌==◌, not, if◌then◌else◌, List, Option, Some, None}
 use Rattle.cg_docspec.specs.Characters.{line_feed, carriage_return, star, slash, is_control}
 use Rattle.cg_docspec.specs.Place.{Place}
 use Rattle.cg_docspec.specs.Tree.{Tree}

@@ -1,5 +1,5 @@
 -- Quoted strings.
-use Rattle.std.specs.Prelude.{ℕ, ◌+◌, ◌*◌, Bool, true, false, ◌&&◌, ◌||◌, ◌==◌, nat_lt, nat_le, not, if◌then◌else◌, cond, List, ◌++◌, Option, Some, None, is_some, encode_utf8}
+use Rattle.std.specs.Prelude.{ℕ, ◌+◌, ◌*◌, Bool, true, ◌&&◌, ◌||◌, ◌==◌, nat_lt, nat_le, not, if◌then◌else◌, cond, List, ◌++◌, Option, Some, None, is_some, encode_utf8}
 use lib.Utf8.{scalar}
 use Rattle.cg_docspec.specs.Characters.{single_quote, backslash, small_u, is_control}
 use Rattle.cg_docspec.specs.Place.{Place}

@@ -1,5 +1,5 @@
 -- Gaps, and the first characters of what stands behind them.
-use Rattle.std.specs.Prelude.{ℕ, Bool, true, false, ◌&&◌, ◌||◌, ◌==◌, if◌then◌else◌, List, [], ◌∷◌, ◌++◌, Option, Some, None, encode_utf8}
+use Rattle.std.specs.Prelude.{ℕ, true, false, ◌&&◌, ◌||◌, ◌==◌, if◌then◌else◌, List, [], ◌∷◌, ◌++◌, Option, Some, None, encode_utf8}
 use Rattle.cg_docspec.specs.Characters.{line_feed, carriage_return, hash, comma, slash, colon, open_bracket, close_bracket, open_brace, close_brace, is_blank, is_control, is_mark, is_key, is_quote}
 use Rattle.cg_docspec.specs.Place.{Place}
 use Rattle.cg_docspec.specs.Tree.{Tree, list_of, object_of}

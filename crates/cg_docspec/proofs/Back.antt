@@ -1,0 +1,4 @@
+-- From the machine to the grammar, one character back: what is left behind a character, with it in front, is left before it.
+pub mod Comments
+pub mod Tokens
+pub mod Gaps
