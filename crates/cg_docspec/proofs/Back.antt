@@ -2,3 +2,5 @@
 pub mod Comments
 pub mod Tokens
 pub mod Gaps
+pub mod Plain
+pub mod Slashes

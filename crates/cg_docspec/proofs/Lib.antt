@@ -1,5 +1,6 @@
 pub mod Basics
 pub mod Numerals
 pub mod Literals
+pub mod Spaces
 pub mod Left
 pub mod Back

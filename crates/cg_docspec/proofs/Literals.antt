@@ -1,20 +1,20 @@
 -- What a literal says, by its spelling; and no literal has a character but letters, digits, signs and points.
-use Rattle.std.proofs.Common.{◌≡◌, ℕ, inl, inr, ◌+◌, ◌<◌, ◌≤◌, List, [], ◌∷◌, ◌++◌, Option, Some, None, refl, arith, true, false, ap, subst, ◌∙◌, sym, Bool}
+use Rattle.std.proofs.Common.{◌≡◌, ℕ, ◌+◌, ◌<◌, ◌≤◌, inl, inr, List, [], ◌∷◌, ◌++◌, Option, Some, None, refl, arith, true, false, Bool, ap, subst, ◌∙◌, sym}
 use Rattle.std.specs.Prelude.{ℤ, ◌/◌, cond, ◌&&◌, ◌||◌, ◌==◌, nat_le, codes}
 use Rattle.std.specs.Str.{bytes_eq}
-use Rattle.std.proofs.lemmas.Bool.{and_parts}
+use Rattle.std.proofs.lemmas.Bool.{and_parts, or_parts}
 use Rattle.std.proofs.lemmas.Bool.Decides.{nat_tests}
-use Rattle.std.proofs.lemmas.Slice.Eq.{bytes_eq-Decides}
 use Rattle.std.proofs.lemmas.Str.{encode_ascii}
+use Rattle.std.proofs.lemmas.Slice.Eq.{bytes_eq-Decides}
 use lib.Utf8.{encodes, encode, next}
 use lib.Dec.{ltb}
-use Rattle.cg_docspec.specs.Characters.{plus, minus, point, capital_e, is_digit}
-use Rattle.cg_docspec.specs.Tree.{Kind, null, boolean, string}
+use Rattle.cg_docspec.specs.Characters.{capital_e, is_digit, minus, plus, point}
+use Rattle.cg_docspec.specs.Tree.{Kind, boolean, null, string}
 use Rattle.cg_docspec.specs.Lines.{is_nil}
-use Rattle.cg_docspec.specs.Literal.{is_e, is_sign, Literal, true_literal, false_literal, null_literal, integer_literal, other_number}
-use Rattle.cg_docspec.specs.Machine.Numeral.{skip_digits, some_digits, signed_digits, is_exponent, is_decimals, is_fraction, is_unsigned, is_number, integer_value, number_kind, is_word, is_literal, plain_kind}
-use Rattle.cg_docspec.proofs.Basics.{bool_cases, never, both, or_cases, if_true}
-use Rattle.cg_docspec.proofs.Numerals.{number_of, number_is, integer_of, integer_number, integer_is}
+use Rattle.cg_docspec.specs.Literal.{Literal, false_literal, integer_literal, is_e, is_sign, null_literal, other_number, true_literal}
+use Rattle.cg_docspec.specs.Machine.Numeral.{integer_value, is_decimals, is_exponent, is_fraction, is_literal, is_number, is_unsigned, is_word, number_kind, plain_kind, signed_digits, skip_digits, some_digits}
+use Rattle.cg_docspec.proofs.Basics.{bool_cases, both, if_true, never, or_cases}
+use Rattle.cg_docspec.proofs.Numerals.{integer_is, integer_number, integer_of, number_is, number_of}
 
 -- ---- the characters of literals
 
@@ -162,8 +162,8 @@ number_literal u e = rw e (go (is_word u))
 
 -- a literal of the grammar is one by its bytes, and says the same
 record Says (u : List ℕ) (k : Kind) : Type 0 where
-  pub is : is_literal u ≡ true
-  pub kind : plain_kind u ≡ k
+  is : is_literal u ≡ true
+  kind : plain_kind u ≡ k
 
 says : {u : List ℕ} {k : Kind} → Literal u k → Says u k
 unfolding is_literal plain_kind skip_digits
@@ -211,3 +211,12 @@ pub literal_of : (u : List ℕ) → is_literal (encodes u) ≡ true → Literal 
 literal_of u e =
     let w : encodes u ≡ u = wordy_bytes u (encodes_wordy u (literal_wordy (encodes u) e)) in
     subst (λ (x : List ℕ). Literal u (plain_kind x)) (sym w) (by_bytes u (subst (λ (x : List ℕ). is_literal x ≡ true) w e))
+
+-- what is no literal is a string
+pub plain_string : (u : List ℕ) → is_literal u ≡ false → plain_kind u ≡ string u
+unfolding plain_kind is_literal
+plain_string u e =
+    let p = or_parts (is_word u) (is_number u) e in
+    let q = or_parts (bytes_eq u (codes "true") || bytes_eq u (codes "false")) (bytes_eq u (codes "null")) p.0 in
+    let r = or_parts (bytes_eq u (codes "true")) (bytes_eq u (codes "false")) q.0 in
+    rw (r.0, r.1, q.1, p.1) refl

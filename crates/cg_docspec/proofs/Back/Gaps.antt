@@ -38,26 +38,26 @@ module _ (T : Tree) where
       (λ e h. subst (λ (x : ℕ). GapThen (AwaitedThen T stack found p) here (x ∷ s)) (sym (same_character c slash e)) (h.left (ap (next_place here) (sym (same_character c slash e)))))
       (λ e47 h. gap_none (AwaitedThen T stack found p) here (c ∷ s) (back_token T stack found here p c s nb (no_comment c s e35 e47) h)))))
 
-  pub after_and_gap : (stack : List Frame) (t : Tree) (here : Place) (c : ℕ) (s : List ℕ) → Left T (then_gap here c (delivered stack t)) (next_place here c) s → AfterValue T stack t here (c ∷ s)
+  pub after_then_gap : (stack : List Frame) (t : Tree) (here : Place) (c : ℕ) (s : List ℕ) → Left T (then_gap here c (delivered stack t)) (next_place here c) s → AfterValue T stack t here (c ∷ s)
   unfolding delivered
-  after_and_gap [] t here c s h = back_gap [] (Some t) here awaited.end c s h
-  after_and_gap (frame.in_list list_at ts ∷ outer) t here c s h = back_gap (frame.in_list list_at (ts ++ t ∷ []) ∷ outer) None here (awaited.item true) c s h
-  after_and_gap (frame.in_member object_at ms k key_at ∷ outer) t here c s h = back_gap (frame.in_object object_at (ms ++ record { key = k; key_place = key_at; value = t } ∷ []) ∷ outer) None here (awaited.item true) c s h
-  after_and_gap (frame.in_object object_at ms ∷ outer) t here c s h = stuck h
+  after_then_gap [] t here c s h = back_gap [] (Some t) here awaited.end c s h
+  after_then_gap (frame.in_list list_at ts ∷ outer) t here c s h = back_gap (frame.in_list list_at (ts ++ t ∷ []) ∷ outer) None here (awaited.item true) c s h
+  after_then_gap (frame.in_member object_at ms k key_at ∷ outer) t here c s h = back_gap (frame.in_object object_at (ms ++ record { key = k; key_place = key_at; value = t } ∷ []) ∷ outer) None here (awaited.item true) c s h
+  after_then_gap (frame.in_object object_at ms ∷ outer) t here c s h = stuck h
 
-  key_and_gap : (stack : List Frame) (k : List ℕ) (key_at here : Place) (c : ℕ) (s : List ℕ) → Left T (then_gap here c (keyed stack k key_at)) (next_place here c) s → KeyThen T stack k key_at here (c ∷ s)
+  key_then_gap : (stack : List Frame) (k : List ℕ) (key_at here : Place) (c : ℕ) (s : List ℕ) → Left T (then_gap here c (keyed stack k key_at)) (next_place here c) s → KeyThen T stack k key_at here (c ∷ s)
   unfolding keyed
-  key_and_gap [] k key_at here c s h = stuck h
-  key_and_gap (frame.in_list list_at ts ∷ outer) k key_at here c s h = stuck h
-  key_and_gap (frame.in_member object_at ms k1 key_at1 ∷ outer) k key_at here c s h = stuck h
-  key_and_gap (frame.in_object object_at ms ∷ outer) k key_at here c s h = back_gap (frame.in_member object_at ms k key_at ∷ outer) None here awaited.colon c s h
+  key_then_gap [] k key_at here c s h = stuck h
+  key_then_gap (frame.in_list list_at ts ∷ outer) k key_at here c s h = stuck h
+  key_then_gap (frame.in_member object_at ms k1 key_at1 ∷ outer) k key_at here c s h = stuck h
+  key_then_gap (frame.in_object object_at ms ∷ outer) k key_at here c s h = back_gap (frame.in_member object_at ms k key_at ∷ outer) None here awaited.colon c s h
 
   pub back_key : (stack : List Frame) (k : List ℕ) (key_at here : Place) (c : ℕ) (s : List ℕ) → Left T (in_key here stack k key_at c) (next_place here c) s → LeftNow T stack None (now.key k key_at) here (c ∷ s)
   unfolding in_key
   back_key stack k key_at here c s =
       by_cases (is_key c) _ _
       (λ e h. (encode_utf8 c ++ h.left.0, h.left.1, h.left.2, run_more e h.left.3, subst (λ (x : List ℕ). KeyThen T stack x key_at h.left.1 h.left.2) (append_assoc k (encode_utf8 c) h.left.0) h.left.4))
-      (λ e h. ([], here, c ∷ s, run_end (rw e refl), subst (λ (x : List ℕ). KeyThen T stack x key_at here (c ∷ s)) (sym (append-nil k)) (key_and_gap stack k key_at here c s h)))
+      (λ e h. ([], here, c ∷ s, run_end (rw e refl), subst (λ (x : List ℕ). KeyThen T stack x key_at here (c ∷ s)) (sym (append-nil k)) (key_then_gap stack k key_at here c s h)))
 
   -- a comment with a slash goes on behind its second character
   comment_then : (stack : List Frame) (found : Option Tree) (p : Awaited) (at0 here : Place) (c : ℕ) (s : List ℕ) → (c == slash || c == star) ≡ true → next_place at0 slash ≡ here → LeftNow T stack found (begun_comment c p) (next_place here c) s → GapThen (AwaitedThen T stack found p) at0 (slash ∷ c ∷ s)
