@@ -4,3 +4,6 @@ pub mod Tokens
 pub mod Gaps
 pub mod Plain
 pub mod Slashes
+pub mod Quotes
+pub mod Lines
+pub mod States

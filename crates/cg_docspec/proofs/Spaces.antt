@@ -20,6 +20,9 @@ pub place_append : (at : Place) (x y : List ℕ) → place_after at (x ++ y) ≡
 place_append at [] y = refl
 place_append at (c ∷ x) y = place_append (next_place at c) x y
 
+pub place_append_one : (at : Place) (x : List ℕ) (c : ℕ) → place_after at (x ++ c ∷ []) ≡ next_place (place_after at x) c
+place_append_one at x c = place_append at x (c ∷ [])
+
 -- a space or a tab
 pub space_cases : (c : ℕ) → is_space c ≡ true → (c ≡ space) ⊎ (c ≡ tab)
 space_cases c e = elim (bool_cases (c == space)) as (λ _. (c ≡ space) ⊎ (c ≡ tab)) [ inl f ↦ inl (same_character c space f) | inr f ↦ inr (same_character c tab (rw f at e)) ]

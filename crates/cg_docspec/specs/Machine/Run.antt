@@ -1,5 +1,5 @@
 -- The machine's steps and runs, and what it answers.
-use Rattle.std.specs.Prelude.{ℕ, nat_lt, if◌then◌else◌, List, [], ◌∷◌, Option, Some, None, option_and_then, length}
+use Rattle.std.specs.Prelude.{ℕ, ◌≡◌, nat_lt, if◌then◌else◌, List, [], ◌∷◌, Option, Some, None, option_and_then, length}
 use Rattle.cg_docspec.specs.Place.{Place, origin, next_place}
 use Rattle.cg_docspec.specs.Tree.{Tree}
 use Rattle.cg_docspec.specs.SyntaxFault.{Answer, read, no_document, too_deep}
@@ -51,6 +51,10 @@ found_in found n = None
 
 abbrev pub whole : State → Option Tree
 whole s = found_in s.found s.now
+
+-- the machine reads these characters to a document's end, and has found its tree
+abbrev pub Finds : Place → State → List ℕ → Tree → Type 0
+Finds at s cs t = (end : State) × (run at s cs ≡ Some end) × (whole end ≡ Some t)
 
 -- what the machine answers
 abbrev pub ended : Place → Option Tree → Answer
