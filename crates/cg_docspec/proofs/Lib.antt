@@ -6,3 +6,4 @@ pub mod Units
 pub mod LineTexts
 pub mod Left
 pub mod Back
+pub mod Forth

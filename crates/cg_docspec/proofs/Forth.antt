@@ -1,0 +1,5 @@
+-- From the grammar to the machine: what is a document by the grammar, the machine reads, with the same tree.
+pub mod Gaps
+pub mod Quotes
+pub mod Lines
+pub mod Plain
