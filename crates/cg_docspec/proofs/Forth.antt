@@ -3,3 +3,6 @@ pub mod Gaps
 pub mod Quotes
 pub mod Lines
 pub mod Plain
+pub mod Leaves
+pub mod Keys
+pub mod Values

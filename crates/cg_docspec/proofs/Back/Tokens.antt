@@ -27,6 +27,11 @@ use Rattle.cg_docspec.proofs.Literals.{literal_is, literal_of}
 pub taken_of : {u : List ℕ} {k : Kind} (r : List ℕ) → Literal u k → may_follow r ≡ true → is_taken u r ≡ true
 taken_of r l m = both _ _ (literal_is l) m
 
+-- nothing is no literal
+pub empty_taken : (r : List ℕ) → is_taken [] r ≡ false
+unfolding is_literal
+empty_taken r = refl
+
 module _ (T : Tree) where
   -- what is left behind a value that was closed, and behind a key
   pub after_delivered : (stack : List Frame) (t : Tree) (at : Place) (s : List ℕ) → Left T (delivered stack t) at s → AfterValue T stack t at s
@@ -52,11 +57,6 @@ module _ (T : Tree) where
   list_then : (stack : List Frame) (here : Place) (c : ℕ) (s : List ℕ) → c ≡ open_bracket → GapThen (ListRest (AfterValue T stack) here []) (next_place here c) s → ValueThen T stack here (c ∷ s)
   list_then stack here c s e h =
       (list_of h.3.0 here, next_place h.3.1 h.3.2, h.3.3, list_value e h.2 h.3.4 h.3.5, h.3.6)
-
-  -- nothing is no literal
-  pub empty_taken : (r : List ℕ) → is_taken [] r ≡ false
-  unfolding is_literal
-  empty_taken r = refl
 
   -- what is not taken by its bytes is no literal of the grammar
   none_at_all : (c : ℕ) (s : List ℕ) → NoneTaken (c ∷ []) s → NoLiteral (c ∷ s)
