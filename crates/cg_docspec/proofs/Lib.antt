@@ -7,3 +7,4 @@ pub mod LineTexts
 pub mod Left
 pub mod Back
 pub mod Forth
+pub mod Completion

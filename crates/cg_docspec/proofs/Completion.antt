@@ -1,0 +1,4 @@
+-- Each prefix that the machine reads begins a document: what holds of the machine's states, and a text that completes each.
+pub mod Fine
+pub mod Room
+pub mod Growth
