@@ -2,3 +2,6 @@
 pub mod Fine
 pub mod Room
 pub mod Growth
+pub mod Closing
+pub mod ClosingQuotes
+pub mod States

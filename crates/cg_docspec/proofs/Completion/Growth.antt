@@ -55,7 +55,7 @@ no_plain here (frame.in_list at ts ∷ outer) u b hope at0 w = w
 no_plain here (frame.in_object at ms ∷ outer) u b hope at0 w = w
 no_plain here (frame.in_member at ms k2 key_at2 ∷ outer) u b hope at0 w = w
 
-unfound : (stack : List Frame) (found : Option Tree) → Kept stack found → Kept stack None
+pub unfound : (stack : List Frame) (found : Option Tree) → Kept stack found → Kept stack None
 unfound stack found k = record { room = k.room; held = k.held; low = tt }
 
 module _ (here : Place) where

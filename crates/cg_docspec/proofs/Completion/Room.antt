@@ -4,7 +4,6 @@ use Rattle.std.specs.Prelude.{ℤ, cond, codes}
 use Rattle.std.specs.Str.{bytes_eq}
 use Rattle.cg_docspec.specs.Place.{Place}
 use Rattle.cg_docspec.specs.Tree.{Kind, Member, Members, Tree, Trees, array, boolean, integer, list_of, member_and, members, no_members, no_trees, null, object_of, string, tree, tree_and, trees}
-
 use Rattle.cg_docspec.specs.Depth.{Opener, StandsAt, in_list, in_object, the_root}
 use Rattle.cg_docspec.specs.Machine.Frame.{Frame}
 use Rattle.cg_docspec.specs.Machine.Frame as frame
