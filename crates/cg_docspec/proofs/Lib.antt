@@ -8,3 +8,4 @@ pub mod Left
 pub mod Back
 pub mod Forth
 pub mod Completion
+pub mod Answering

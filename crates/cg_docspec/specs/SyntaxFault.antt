@@ -28,7 +28,7 @@ IsShallow text n = (i : ℕ) → i < n → OpensAt text 65 i → ⊥
 -- the text is no document, and the longest prefix that begins one ends there; no opener of depth 65 stands before
 pub record NoDocument (text : List ℕ) (at : Place) : Type 0 where
   pub end : ℕ
-  pub no_document : (t : Tree) → Document text t → ⊥
+  pub no_tree : (t : Tree) → Document text t → ⊥
   pub is_longest : IsLongest text end
   pub shallow : IsShallow text end
   pub is_place : at ≡ place_after origin (take end text)

@@ -74,8 +74,7 @@ module _ (T : Tree) where
   plain_then : (stack : List Frame) (here : Place) (c : ℕ) (s : List ℕ) → is_key c ≡ true → is_control c ≡ false → is_space c ≡ false → is_quote c ≡ false → at_comment (c ∷ s) ≡ false →
       TakenThen T stack here (c ∷ []) s ⊎ UnquotedThen T stack here (c ∷ []) [] (next_place here c) s → ValueThen T stack here (c ∷ s)
   plain_then stack here c s k n sp q nc (inl h) =
-      subst (λ (x : List ℕ). ValueThen T stack here (c ∷ x)) (sym h.2)
-      (
+      subst (λ (x : List ℕ). ValueThen T stack here (c ∷ x)) (sym h.2) (
         plain_tree (encodes (c ∷ h.0)) here,
         place_after here (c ∷ h.0),
         h.1,

@@ -159,4 +159,3 @@ module _ (stack : List Frame) (key : Bool) (v : FineQuoted key stack) (q : ℕ) 
               (subst (λ (y : Place). QuotedThen q (u ++ encode_utf8 (paired h 56320)) (KeyOrString x.0 stack key at0) (place_after (next_place y small_u) low_digits) (q ∷ tail key)) (sym a) x.1),
           x.2,
         )
-

@@ -3,7 +3,6 @@ use Rattle.std.proofs.Common.{◌≡◌, ℕ, ◌⊎◌, inl, inr, List, [], ◌
 use Rattle.std.specs.Prelude.{◌&&◌, ◌==◌, not, encode_utf8, option_and_then}
 use Rattle.std.proofs.lemmas.Bool.Decides.{nat_tests}
 use Rattle.std.proofs.lemmas.List.{append-nil}
-use lib.Utf8.{next}
 use Rattle.cg_docspec.specs.Characters.{carriage_return, hash, is_blank, is_control, is_key, line_feed, slash, star}
 use Rattle.cg_docspec.specs.Place.{Place, next_place}
 use Rattle.cg_docspec.specs.Tree.{Member, Tree}
@@ -21,7 +20,7 @@ use Rattle.cg_docspec.specs.Machine.State.{State, reading}
 use Rattle.cg_docspec.specs.Machine.Token.{in_gap, in_gap_return, in_key}
 use Rattle.cg_docspec.proofs.Basics.{never, same_character}
 
-run_step : (at : Place) (s t : State) (c : ℕ) (xs : List ℕ) → step at s c ≡ Some t → run at s (c ∷ xs) ≡ run (next_place at c) t xs
+pub run_step : (at : Place) (s t : State) (c : ℕ) (xs : List ℕ) → step at s c ≡ Some t → run at s (c ∷ xs) ≡ run (next_place at c) t xs
 run_step at s t c xs h = ap (option_and_then (λ t. run (next_place at c) t xs)) h
 
 -- what is a document from the second state on is one from the first on

@@ -79,4 +79,3 @@ module _ (object_at : Place) (ms : List Member) (o : List Frame) where
             (slashed_key at (next_place at c) b s (subst (λ (x : ℕ). at_comment (x ∷ s) ≡ false) c47 nc) t (subst (λ (x : ℕ). Finds (next_place at c) (key_state object_at ms o at (encode_utf8 x)) s t) c47 rest))
         | inr f ↦ goes_step at (members b) (key_state object_at ms o at (encode_utf8 c)) c s (begin_key at b c k q (no_hash c s nc) f) t rest
       ]
-

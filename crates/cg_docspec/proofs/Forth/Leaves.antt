@@ -263,4 +263,3 @@ module _ (stack inner : List Frame) (p : Awaited) (takes : Takes stack p) where
   leaf_goes (literal {at} u r l m) out t doc =
       literal_leaf at u r (literal_is l) m (ap (λ (k : Kind). delivered stack (tree k at)) (literal_says l) ∙ out) t doc
   leaf_goes (unquoted {at} {at'} {c} {s} {w} {r} n k q nc l) out t doc = unquoted_leaf at at' c s w r n k q nc l out t doc
-

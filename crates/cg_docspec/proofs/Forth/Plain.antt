@@ -5,7 +5,7 @@ use Rattle.std.proofs.lemmas.Bool.{and_parts}
 use Rattle.std.proofs.lemmas.Bool.Decides.{nat_tests}
 use Rattle.std.proofs.lemmas.List.{append-nil}
 use Rattle.std.proofs.lemmas.Str.{encodes-append, encode_ascii}
-use lib.Utf8.{encodes, next}
+use lib.Utf8.{encodes}
 use Rattle.cg_docspec.specs.Characters.{carriage_return, hash, is_control, is_space, line_feed, slash, star}
 use Rattle.cg_docspec.specs.Place.{Place, next_place, place_after}
 use Rattle.cg_docspec.specs.Tree.{Kind, string, string_of, tree}

@@ -3,7 +3,7 @@ use Rattle.std.proofs.Common.{◌≡◌, ℕ, List, [], ◌∷◌, ◌++◌, Som
 use Rattle.std.proofs.lemmas.List.{append-nil}
 use Rattle.cg_docspec.specs.Characters.{close_brace, close_bracket, colon, comma, open_brace}
 use Rattle.cg_docspec.specs.Place.{Place, next_place, origin}
-use Rattle.cg_docspec.specs.Tree.{Member, Tree, list_of, object_of, tree}
+use Rattle.cg_docspec.specs.Tree.{Member, Tree, list_of, object_of}
 use Rattle.cg_docspec.specs.Document.{Comma, Document, MemberRun, Object, Value, ValueRun, document, leaf_value, list_value, no_comma, no_member, no_value, object, object_value, one_comma, one_member, one_value}
 use Rattle.cg_docspec.specs.Machine.Awaited.{Awaited}
 use Rattle.cg_docspec.specs.Machine.Awaited as awaited
