@@ -205,6 +205,7 @@ LinesLeft T stack u ended k (spot.line_return n) at0 at s = FeedThen (LinesThen 
 
 -- ---- all states
 
+-- what is left in each state
 abbrev pub LeftNow : Tree → List Frame → Option Tree → Now → Place → List ℕ → Type 0
 LeftNow T stack found (now.gap p) at s = GapThen (AwaitedThen T stack found p) at s
 LeftNow T stack found (now.gap_return p) at s = FeedThen (GapThen (AwaitedThen T stack found p)) at s
@@ -226,5 +227,6 @@ abbrev pub LeftIn : Tree → Option State → Place → List ℕ → Type 0
 LeftIn T None at s = ⊥
 LeftIn T (Some σ) at s = LeftNow T σ.stack σ.found σ.now at s
 
+-- the same as a record, from which the terms can be found
 pub record Left (T : Tree) (o : Option State) (at : Place) (s : List ℕ) : Type 0 where
   pub left : LeftIn T o at s

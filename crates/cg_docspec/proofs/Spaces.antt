@@ -20,6 +20,7 @@ pub place_append : (at : Place) (x y : List ℕ) → place_after at (x ++ y) ≡
 place_append at [] y = refl
 place_append at (c ∷ x) y = place_append (next_place at c) x y
 
+-- the same with one character more
 pub place_append_one : (at : Place) (x : List ℕ) (c : ℕ) → place_after at (x ++ c ∷ []) ≡ next_place (place_after at x) c
 place_append_one at x c = place_append at x (c ∷ [])
 
@@ -27,12 +28,15 @@ place_append_one at x c = place_append at x (c ∷ [])
 pub space_cases : (c : ℕ) → is_space c ≡ true → (c ≡ space) ⊎ (c ≡ tab)
 space_cases c e = elim (bool_cases (c == space)) as (λ _. (c ≡ space) ⊎ (c ≡ tab)) [ inl f ↦ inl (same_character c space f) | inr f ↦ inr (same_character c tab (rw f at e)) ]
 
+-- it is a blank
 pub space_blank : (c : ℕ) → is_space c ≡ true → is_blank c ≡ true
 space_blank c e = elim (space_cases c e) as (λ _. is_blank c ≡ true) [ inl f ↦ rw f refl | inr f ↦ rw f refl ]
 
+-- it stands in no literal
 pub space_no_word : (c : ℕ) → is_space c ≡ true → is_wordy c ≡ false
 space_no_word c e = grind (arith, nat_tests)
 
+-- it may stand in a document
 pub space_uncontrolled : (c : ℕ) → is_space c ≡ true → is_control c ≡ false
 space_uncontrolled c e = elim (space_cases c e) as (λ _. is_control c ≡ false) [ inl f ↦ rw f refl | inr f ↦ rw f refl ]
 
@@ -46,6 +50,7 @@ pub trimmed_space : (x : List ℕ) (c : ℕ) → is_space c ≡ true → trimmed
 trimmed_space [] c e = rw e refl
 trimmed_space (d ∷ x) c e = rw (trimmed_space x c e) refl
 
+-- behind any other character nothing is trimmed
 not_nil : (x : List ℕ) (c : ℕ) → is_space c ≡ false → is_nil (trimmed (x ++ c ∷ [])) ≡ false
 not_nil [] c e = rw e refl
 not_nil (d ∷ x) c e = rw (not_nil x c e) (go (is_space d))
@@ -54,6 +59,7 @@ not_nil (d ∷ x) c e = rw (not_nil x c e) (go (is_space d))
     go true = refl
     go false = refl
 
+-- behind any other character nothing is trimmed, the whole stays
 pub trimmed_solid : (x : List ℕ) (c : ℕ) → is_space c ≡ false → trimmed (x ++ c ∷ []) ≡ x ++ c ∷ []
 trimmed_solid [] c e = rw e refl
 trimmed_solid (d ∷ x) c e = rw (not_nil x c e) (go (is_space d)) ∙ ap (λ (y : List ℕ). d ∷ y) (trimmed_solid x c e)
@@ -62,6 +68,7 @@ trimmed_solid (d ∷ x) c e = rw (not_nil x c e) (go (is_space d)) ∙ ap (λ (y
     go true = refl
     go false = refl
 
+-- one more
 pub spaces_append : (x : List ℕ) (c : ℕ) → are_spaces x ≡ true → is_space c ≡ true → are_spaces (x ++ c ∷ []) ≡ true
 spaces_append [] c e f = rw f refl
 spaces_append (d ∷ x) c e f = let p = and_parts (is_space d) (are_spaces x) e in rw p.0 (spaces_append x c p.1 f)

@@ -33,5 +33,6 @@ hex_small c d e = go (nat_le 48 c && nat_le c 57) (nat_le 97 c && nat_le c 102) 
     go false false true a b f = let g : Some (c - 55) ≡ Some d = sym (rw (a, b, f) refl) ∙ e in let h : c - 55 ≡ d = cc in grind (arith, nat_tests)
     go false false false a b f = let g : None ≡ Some d = sym (rw (a, b, f) refl) ∙ e in cc
 
+-- one character more
 pub length_one : (x : List ℕ) (c n : ℕ) → length x ≡ n → length (x ++ c ∷ []) ≡ n + 1
 length_one x c n e = length-append x (c ∷ []) ∙ omega (arith, e)

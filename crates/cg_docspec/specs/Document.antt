@@ -19,15 +19,19 @@ trimmed (c ∷ s) = if is_space c && is_nil (trimmed s) then [] else c ∷ trimm
 -- A value without parts: a quoted string, a multi-line string, a literal, or else an unquoted string. That begins with
 -- none of , : [ ] { }, a quote or a comment, and runs to the line end or the text's end.
 pub data Leaf : Place → List ℕ → Kind → Place → List ℕ → Type 0 where
-  quoted : {at at' : Place} {c : ℕ} {s u r : List ℕ} → is_quote c ≡ true → starts three_quotes (c ∷ s) ≡ false → Quoted c (next_place at c) s u at' r → Leaf at (c ∷ s) (string u) at' r
-  lines : {at at' : Place} {c d e : ℕ} {s w r : List ℕ} → c ≡ single_quote → d ≡ single_quote → e ≡ single_quote → Lines (place_after at (c ∷ d ∷ e ∷ [])) s w at' r →
+  quoted : {at at' : Place} {c : ℕ} {s u r : List ℕ} → is_quote c ≡ true → starts three_quotes (c ∷ s) ≡ false →
+      Quoted c (next_place at c) s u at' r → Leaf at (c ∷ s) (string u) at' r
+  lines : {at at' : Place} {c d e : ℕ} {s w r : List ℕ} → c ≡ single_quote → d ≡ single_quote → e ≡ single_quote →
+      Lines (place_after at (c ∷ d ∷ e ∷ [])) s w at' r →
       Leaf at (c ∷ d ∷ e ∷ s) (string (lines_text (at.column - 1) w)) at' r
   literal : {at : Place} {k : Kind} (u r : List ℕ) → Literal u k → may_follow r ≡ true → Leaf at (u ++ r) k (place_after at u) r
-  unquoted : {at at' : Place} {c : ℕ} {s w r : List ℕ} → NoLiteral (c ∷ s) → is_key c ≡ true → is_quote c ≡ false → at_comment (c ∷ s) ≡ false → Line at (c ∷ s) w at' r →
+  unquoted : {at at' : Place} {c : ℕ} {s w r : List ℕ} → NoLiteral (c ∷ s) → is_key c ≡ true → is_quote c ≡ false → at_comment (c ∷ s) ≡ false →
+      Line at (c ∷ s) w at' r →
       Leaf at (c ∷ s) (string (encodes (trimmed w))) at' r
 
 -- ---- keys
 
+-- no character of a key comes next
 abbrev pub ends_key : List ℕ → Bool
 ends_key [] = true
 ends_key (c ∷ s) = not (is_key c)
@@ -35,12 +39,14 @@ ends_key (c ∷ s) = not (is_key c)
 -- the longest run of characters that are neither a blank nor one of , : [ ] { }
 pub data KeyRun : Place → List ℕ → List ℕ → Place → List ℕ → Type 0 where
   run_end : {at : Place} {s : List ℕ} → ends_key s ≡ true → KeyRun at s [] at s
-  run_more : {at at' : Place} {c : ℕ} {s u r : List ℕ} → is_key c ≡ true → KeyRun (next_place at c) s u at' r → KeyRun at (c ∷ s) (encode_utf8 c ++ u) at' r
+  run_more : {at at' : Place} {c : ℕ} {s u r : List ℕ} → is_key c ≡ true → KeyRun (next_place at c) s u at' r →
+      KeyRun at (c ∷ s) (encode_utf8 c ++ u) at' r
 
 -- a quoted string, or such a run of at least one character, which begins with no quote and no comment
 pub data Key : Place → List ℕ → List ℕ → Place → List ℕ → Type 0 where
   quoted_key : {at at' : Place} {c : ℕ} {s u r : List ℕ} → is_quote c ≡ true → Quoted c (next_place at c) s u at' r → Key at (c ∷ s) u at' r
-  run_key : {at at' : Place} {c : ℕ} {s u r : List ℕ} → is_key c ≡ true → is_quote c ≡ false → at_comment (c ∷ s) ≡ false → KeyRun (next_place at c) s u at' r → Key at (c ∷ s) (encode_utf8 c ++ u) at' r
+  run_key : {at at' : Place} {c : ℕ} {s u r : List ℕ} → is_key c ≡ true → is_quote c ≡ false → at_comment (c ∷ s) ≡ false →
+      KeyRun (next_place at c) s u at' r → Key at (c ∷ s) (encode_utf8 c ++ u) at' r
 
 -- ---- values
 

@@ -26,14 +26,20 @@ pub data Line : Place → List ℕ → List ℕ → Place → List ℕ → Type 
 -- up to the first */, and behind it
 pub data Block : Place → List ℕ → Place → List ℕ → Type 0 where
   block_end : {at : Place} {c d : ℕ} {s : List ℕ} → c ≡ star → d ≡ slash → Block at (c ∷ d ∷ s) (next_place (next_place at c) d) s
-  block_more : {at at' : Place} {c : ℕ} {s r : List ℕ} → starts (star ∷ slash ∷ []) (c ∷ s) ≡ false → (is_control c ≡ false) ⊎ (c ≡ line_feed) → Block (next_place at c) s at' r → Block at (c ∷ s) at' r
-  block_crlf : {at at' : Place} {c d : ℕ} {s r : List ℕ} → c ≡ carriage_return → d ≡ line_feed → Block (next_place (next_place at c) d) s at' r → Block at (c ∷ d ∷ s) at' r
+  block_more : {at at' : Place} {c : ℕ} {s r : List ℕ} → starts (star ∷ slash ∷ []) (c ∷ s) ≡ false → (is_control c ≡ false) ⊎ (c ≡ line_feed) →
+      Block (next_place at c) s at' r → Block at (c ∷ s) at' r
+  block_crlf : {at at' : Place} {c d : ℕ} {s r : List ℕ} → c ≡ carriage_return → d ≡ line_feed → Block (next_place (next_place at c) d) s at' r →
+      Block at (c ∷ d ∷ s) at' r
 
 -- any run of blanks and comments; blanks are spaces, tabs and line ends
 pub data Gap : Place → List ℕ → Place → List ℕ → Type 0 where
   no_gap : {at : Place} {s : List ℕ} → Gap at s at s
   blank : {at at' : Place} {c : ℕ} {s r : List ℕ} → is_blank c ≡ true → Gap (next_place at c) s at' r → Gap at (c ∷ s) at' r
-  crlf : {at at' : Place} {c d : ℕ} {s r : List ℕ} → c ≡ carriage_return → d ≡ line_feed → Gap (next_place (next_place at c) d) s at' r → Gap at (c ∷ d ∷ s) at' r
-  hash_comment : {at at1 at' : Place} {c : ℕ} {s w s1 r : List ℕ} → c ≡ hash → Line (next_place at c) s w at1 s1 → Gap at1 s1 at' r → Gap at (c ∷ s) at' r
-  slash_comment : {at at1 at' : Place} {c d : ℕ} {s w s1 r : List ℕ} → c ≡ slash → d ≡ slash → Line (next_place (next_place at c) d) s w at1 s1 → Gap at1 s1 at' r → Gap at (c ∷ d ∷ s) at' r
-  block_comment : {at at1 at' : Place} {c d : ℕ} {s s1 r : List ℕ} → c ≡ slash → d ≡ star → Block (next_place (next_place at c) d) s at1 s1 → Gap at1 s1 at' r → Gap at (c ∷ d ∷ s) at' r
+  crlf : {at at' : Place} {c d : ℕ} {s r : List ℕ} → c ≡ carriage_return → d ≡ line_feed → Gap (next_place (next_place at c) d) s at' r →
+      Gap at (c ∷ d ∷ s) at' r
+  hash_comment : {at at1 at' : Place} {c : ℕ} {s w s1 r : List ℕ} → c ≡ hash → Line (next_place at c) s w at1 s1 → Gap at1 s1 at' r →
+      Gap at (c ∷ s) at' r
+  slash_comment : {at at1 at' : Place} {c d : ℕ} {s w s1 r : List ℕ} → c ≡ slash → d ≡ slash → Line (next_place (next_place at c) d) s w at1 s1 →
+      Gap at1 s1 at' r → Gap at (c ∷ d ∷ s) at' r
+  block_comment : {at at1 at' : Place} {c d : ℕ} {s s1 r : List ℕ} → c ≡ slash → d ≡ star → Block (next_place (next_place at c) d) s at1 s1 →
+      Gap at1 s1 at' r → Gap at (c ∷ d ∷ s) at' r

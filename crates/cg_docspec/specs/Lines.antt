@@ -5,14 +5,18 @@ use Rattle.cg_docspec.specs.Characters.{line_feed, carriage_return, single_quote
 use Rattle.cg_docspec.specs.Place.{Place, next_place, place_after}
 use Rattle.cg_docspec.specs.Gap.{starts}
 
+-- three single quotes
 abbrev pub three_quotes : List ℕ
 three_quotes = single_quote ∷ single_quote ∷ single_quote ∷ []
 
 -- Behind the opening ''', to and with the next one: the characters, where each line end is a line feed.
 pub data Lines : Place → List ℕ → List ℕ → Place → List ℕ → Type 0 where
-  lines_end : {at : Place} {c d e : ℕ} {s : List ℕ} → c ≡ single_quote → d ≡ single_quote → e ≡ single_quote → Lines at (c ∷ d ∷ e ∷ s) [] (place_after at (c ∷ d ∷ e ∷ [])) s
-  lines_more : {at at' : Place} {c : ℕ} {s w r : List ℕ} → starts three_quotes (c ∷ s) ≡ false → (is_control c ≡ false) ⊎ (c ≡ line_feed) → Lines (next_place at c) s w at' r → Lines at (c ∷ s) (c ∷ w) at' r
-  lines_crlf : {at at' : Place} {c d : ℕ} {s w r : List ℕ} → c ≡ carriage_return → d ≡ line_feed → Lines (next_place (next_place at c) d) s w at' r → Lines at (c ∷ d ∷ s) (line_feed ∷ w) at' r
+  lines_end : {at : Place} {c d e : ℕ} {s : List ℕ} → c ≡ single_quote → d ≡ single_quote → e ≡ single_quote →
+      Lines at (c ∷ d ∷ e ∷ s) [] (place_after at (c ∷ d ∷ e ∷ [])) s
+  lines_more : {at at' : Place} {c : ℕ} {s w r : List ℕ} → starts three_quotes (c ∷ s) ≡ false → (is_control c ≡ false) ⊎ (c ≡ line_feed) →
+      Lines (next_place at c) s w at' r → Lines at (c ∷ s) (c ∷ w) at' r
+  lines_crlf : {at at' : Place} {c d : ℕ} {s w r : List ℕ} → c ≡ carriage_return → d ≡ line_feed → Lines (next_place (next_place at c) d) s w at' r →
+      Lines at (c ∷ d ∷ s) (line_feed ∷ w) at' r
 
 -- there is nothing
 abbrev pub is_nil : List ℕ → Bool

@@ -19,9 +19,11 @@ pub data Fraction : List ℕ → Type 0 where
   no_fraction : Fraction []
   fraction : {c d : ℕ} {s : List ℕ} → c ≡ point → is_digit d ≡ true → are_digits s ≡ true → Fraction (c ∷ d ∷ s)
 
+-- an e or an E
 abbrev pub is_e : ℕ → Bool
 is_e c = c == small_e || c == capital_e
 
+-- a plus or a minus
 abbrev pub is_sign : ℕ → Bool
 is_sign c = c == plus || c == minus
 
@@ -41,6 +43,7 @@ abbrev pub value_behind : ℕ → List ℕ → ℕ
 value_behind v [] = v
 value_behind v (c ∷ s) = value_behind (v * 10 + (c - zero_digit)) s
 
+-- the value of digits
 abbrev pub value_of : List ℕ → ℕ
 value_of s = value_behind 0 s
 

@@ -42,6 +42,7 @@ IsUnit x v = (length x ≡ 4) × (hex_value (Some 0) x ≡ Some v)
 abbrev pub is_high : ℕ → Bool
 is_high v = nat_le 55296 v && nat_lt v 56320
 
+-- U+DC00 to U+DFFF
 abbrev pub is_low : ℕ → Bool
 is_low v = nat_le 56320 v && nat_lt v 57344
 
@@ -53,10 +54,13 @@ paired high low = 65536 + high % 1024 * 1024 + low % 1024
 -- character, and a surrogate alone is no scalar.
 pub data Quoted (q : ℕ) : Place → List ℕ → List ℕ → Place → List ℕ → Type 0 where
   closes : {at : Place} {c : ℕ} {s : List ℕ} → (c == q) ≡ true → Quoted q at (c ∷ s) [] (next_place at c) s
-  as_is : {at at' : Place} {c : ℕ} {s u r : List ℕ} → (c == q) ≡ false → (c == backslash) ≡ false → is_control c ≡ false → Quoted q (next_place at c) s u at' r → Quoted q at (c ∷ s) (encode_utf8 c ++ u) at' r
-  escape : {at at' : Place} {c d v : ℕ} {s u r : List ℕ} → c ≡ backslash → escaped d ≡ Some v → Quoted q (next_place (next_place at c) d) s u at' r → Quoted q at (c ∷ d ∷ s) (encode_utf8 v ++ u) at' r
+  as_is : {at at' : Place} {c : ℕ} {s u r : List ℕ} → (c == q) ≡ false → (c == backslash) ≡ false → is_control c ≡ false →
+      Quoted q (next_place at c) s u at' r → Quoted q at (c ∷ s) (encode_utf8 c ++ u) at' r
+  escape : {at at' : Place} {c d v : ℕ} {s u r : List ℕ} → c ≡ backslash → escaped d ≡ Some v → Quoted q (next_place (next_place at c) d) s u at' r →
+      Quoted q at (c ∷ d ∷ s) (encode_utf8 v ++ u) at' r
   unit : {at at' : Place} {c d v : ℕ} {s u r : List ℕ} (x : List ℕ) → c ≡ backslash → d ≡ small_u → IsUnit x v → scalar v ≡ true →
       Quoted q (place_after (next_place (next_place at c) d) x) s u at' r → Quoted q at (c ∷ d ∷ (x ++ s)) (encode_utf8 v ++ u) at' r
-  pair : {at at' : Place} {c d e f v w : ℕ} {s u r : List ℕ} (x y : List ℕ) → c ≡ backslash → d ≡ small_u → IsUnit x v → is_high v ≡ true → e ≡ backslash → f ≡ small_u → IsUnit y w → is_low w ≡ true →
+  pair : {at at' : Place} {c d e f v w : ℕ} {s u r : List ℕ} (x y : List ℕ) → c ≡ backslash → d ≡ small_u → IsUnit x v → is_high v ≡ true →
+      e ≡ backslash → f ≡ small_u → IsUnit y w → is_low w ≡ true →
       Quoted q (place_after (next_place (next_place (place_after (next_place (next_place at c) d) x) e) f) y) s u at' r →
       Quoted q at (c ∷ d ∷ (x ++ (e ∷ f ∷ (y ++ s)))) (encode_utf8 (paired v w) ++ u) at' r

@@ -37,6 +37,7 @@ abbrev pub trees : List Tree → Trees
 trees [] = no_trees
 trees (t ∷ ts) = tree_and t (trees ts)
 
+-- members as they stand in a list
 abbrev pub members : List Member → Members
 members [] = no_members
 members (m ∷ ms) = member_and m.key m.key_place m.value (members ms)
@@ -45,6 +46,7 @@ members (m ∷ ms) = member_and m.key m.key_place m.value (members ms)
 abbrev pub list_of : List Tree → Place → Tree
 list_of ts at = tree (array (trees ts)) at
 
+-- an object whose opener stands there
 abbrev pub object_of : List Member → Place → Tree
 object_of ms at = tree (object (members ms)) at
 

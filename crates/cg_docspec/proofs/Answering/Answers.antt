@@ -34,9 +34,11 @@ shallow text n mid e k i h o =
     let d : Document (take (suc i) text ++ (f.0 ++ c.0)) c.1 = subst (λ (x : List ℕ). Document x c.1) (ap (λ (x : List ℕ). x ++ c.0) f.1 ∙ append_assoc (take (suc i) text) f.0 c.0) c.2 in
     no_opener c.1 (c.3 k) (place_after origin (take i text)) (o.opener (f.0 ++ c.0) c.1 d)
 
+-- before a text 64 levels suffice
 abbrev kept_start : Kept [] None
 kept_start = record { room = 64; held = refl; low = tt }
 
+-- what the machine's run says, the grammar says
 right : (text : List ℕ) (a : Answer) → Runs origin start text a → IsAnswer text a
 right text (read t) r = (document_of text t r.0, no_opener t r.1)
 right text (no_document p) r = record {
@@ -61,6 +63,7 @@ right text (too_deep p) r = record {
   is_place = r.is_place;
 }
 
+-- the machine's answer is right
 pub is_answer : (text : List ℕ) → IsAnswer text (answer text)
 is_answer text = right text (answer text) (runs_all origin start text kept_start)
 
@@ -76,6 +79,7 @@ one_tree s t u d e =
 
 -- ---- one answer
 
+-- a prefix of what begins a document begins one
 begins_front : (p rest : List ℕ) → Begins (p ++ rest) → Begins p
 begins_front p rest b = (rest ++ b.0, b.1, subst (λ (x : List ℕ). Document x b.1) (append_assoc p rest b.0) b.2)
 
@@ -100,6 +104,7 @@ before_end text p q a b =
     let h : suc b.index ≤ a.end = longest_bound text a.end (suc b.index) a.is_longest (omega (arith, b.opens.within)) b.opens.begins in
     a.shallow b.index (omega (arith, h)) b.opens
 
+-- no document: at one place
 same_end : (text : List ℕ) (p q : Place) → NoDocument text p → NoDocument text q → p ≡ q
 same_end text p q a b =
     let x : a.end ≤ b.end = longest_bound text b.end a.end b.is_longest a.is_longest.within a.is_longest.begins in
@@ -107,6 +112,7 @@ same_end text p q a b =
     let e : a.end ≡ b.end = omega arith in
     a.is_place ∙ ap (λ (n : ℕ). place_after origin (take n text)) e ∙ sym b.is_place
 
+-- too deep: at one place
 same_opener : (text : List ℕ) (p q : Place) → TooDeep text p → TooDeep text q → p ≡ q
 same_opener text p q a b =
     elim (bool_cases (nat_lt a.index b.index)) as (λ _. p ≡ q) [
@@ -119,6 +125,7 @@ same_opener text p q a b =
       ]
     ]
 
+-- a text has one answer
 pub one_answer : (text : List ℕ) (a b : Answer) → IsAnswer text a → IsAnswer text b → a ≡ b
 one_answer text (read t) (read u) x y = ap read (one_tree text t u x.0 y.0)
 one_answer text (read t) (no_document q) x y = absurd (y.no_tree t x.0)

@@ -40,6 +40,7 @@ pub record Deepens (at : Place) (σ : State) (cs : List ℕ) (p : Place) : Type 
   pub over : IsOver (place_after at (take index cs)) after.stack after.now
   pub is_place : p ≡ place_after at (take index cs)
 
+-- what an answer says of the run
 abbrev pub Runs : Place → State → List ℕ → Answer → Type 0
 Runs at σ cs (read t) = Finds at σ cs t × Low 64 t
 Runs at σ cs (no_document p) = Stops at σ cs p
@@ -53,6 +54,7 @@ found_of found (now.gap awaited.end) t e = e
 found_of found (now.comment awaited.end) t e = e
 found_of found n t e = let f : None ≡ Some t = e in cc
 
+-- at the text's end
 runs_end : (at : Place) (σ : State) (o : Option Tree) → whole σ ≡ o → Kept σ.stack σ.found → Runs at σ [] (ended at o)
 runs_end at σ None e k = record {
   end = 0;
@@ -66,9 +68,11 @@ runs_end at σ None e k = record {
 }
 runs_end at σ (Some t) e k = ((σ, refl, e), subst LowFound (found_of σ.found σ.now t e) k.low)
 
+-- no run goes over a step that fails
 run_stuck : (at : Place) (σ : State) (c : ℕ) (cs : List ℕ) → step at σ c ≡ None → run at σ (c ∷ cs) ≡ None
 run_stuck at σ c cs h = ap (option_and_then (λ t. run (next_place at c) t cs)) h
 
+-- at a step that fails
 runs_stuck : (at : Place) (σ : State) (c : ℕ) (cs : List ℕ) → step at σ c ≡ None → Kept σ.stack σ.found → Stops at σ (c ∷ cs) at
 runs_stuck at σ c cs h k = record {
   end = 0;
@@ -81,11 +85,14 @@ runs_stuck at σ c cs h k = record {
   is_place = refl;
 }
 
-runs_deep : (at : Place) (σ t : State) (c : ℕ) (cs : List ℕ) → step at σ c ≡ Some t → Kept σ.stack σ.found → IsOver at t.stack t.now → Deepens at σ (c ∷ cs) at
+-- at an opener of depth 65
+runs_deep : (at : Place) (σ t : State) (c : ℕ) (cs : List ℕ) → step at σ c ≡ Some t → Kept σ.stack σ.found → IsOver at t.stack t.now →
+    Deepens at σ (c ∷ cs) at
 runs_deep at σ t c cs h k w = record { index = 0; within = omega arith; mid = σ; runs = refl; kept = k; after = t; runs_on = run_step at σ t c [] h; over = w; is_place = refl }
 
 -- one character more in front
-runs_more : (at : Place) (σ t : State) (c : ℕ) (cs : List ℕ) (a : Answer) → step at σ c ≡ Some t → Runs (next_place at c) t cs a → Runs at σ (c ∷ cs) a
+runs_more : (at : Place) (σ t : State) (c : ℕ) (cs : List ℕ) (a : Answer) → step at σ c ≡ Some t → Runs (next_place at c) t cs a →
+    Runs at σ (c ∷ cs) a
 runs_more at σ t c cs (read x) h r = ((r.0.0, run_step at σ t c cs h ∙ r.0.1, r.0.2), r.1)
 runs_more at σ t c cs (no_document p) h r = record {
   end = suc r.end;
@@ -111,12 +118,16 @@ runs_more at σ t c cs (too_deep p) h r = record {
 
 -- ---- the whole run
 
+-- behind such an opener 65 are open
 over_length : (here : Place) (stack : List Frame) (n : Now) → IsOver here stack n → length stack ≡ 65
 over_length here (frame.in_object at ms ∷ outer) (now.gap (awaited.item false)) w = omega (arith, held_length 0 outer w.1)
 over_length here (frame.in_list at ts ∷ outer) (now.gap (awaited.item false)) w = omega (arith, held_length 0 outer w.1)
 over_length here stack n w = absurd w
 
-runs_next : (at : Place) (σ : State) (c : ℕ) (cs : List ℕ) (more : State → Answer) → ((t : State) → Kept t.stack t.found → Runs (next_place at c) t cs (more t)) → (o : Option State) → step at σ c ≡ o → Grown at o → Kept σ.stack σ.found →
+-- behind a step, if there is one
+runs_next : (at : Place) (σ : State) (c : ℕ) (cs : List ℕ) (more : State → Answer) →
+    ((t : State) → Kept t.stack t.found → Runs (next_place at c) t cs (more t)) → (o : Option State) → step at σ c ≡ o → Grown at o →
+    Kept σ.stack σ.found →
     Runs at σ (c ∷ cs) (next_or_fault at more o)
 runs_next at σ c cs more f None h g k = runs_stuck at σ c cs h k
 runs_next at σ c cs more f (Some t) h g k =
@@ -130,6 +141,7 @@ runs_next at σ c cs more f (Some t) h g k =
     shallow (inl x) l = runs_more at σ t c cs (more t) h (f t x)
     shallow (inr w) l = absurd (omega (arith, l, over_length at t.stack t.now w))
 
+-- from each state in which 64 levels suffice
 pub runs_all : (at : Place) (σ : State) (cs : List ℕ) → Kept σ.stack σ.found → Runs at σ cs (answer_from at σ cs)
 runs_all at σ [] k = runs_end at σ (whole σ) refl k
 runs_all at σ (c ∷ cs) k =

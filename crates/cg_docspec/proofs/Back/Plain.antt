@@ -26,19 +26,24 @@ use Rattle.cg_docspec.proofs.Spaces.{encodes_one, ender_follows, follow_spaces, 
 
 module _ (T : Tree) where
   -- a blank, a line end, and spaces and tabs more behind a value
-  pub after_blank : (stack : List Frame) (t : Tree) (at : Place) (c : ℕ) (s : List ℕ) → is_blank c ≡ true → AfterValue T stack t (next_place at c) s → AfterValue T stack t at (c ∷ s)
+  pub after_blank : (stack : List Frame) (t : Tree) (at : Place) (c : ℕ) (s : List ℕ) → is_blank c ≡ true → AfterValue T stack t (next_place at c) s →
+      AfterValue T stack t at (c ∷ s)
   after_blank [] t at c s e h = gap_blank _ at c s e h
   after_blank (frame.in_list list_at ts ∷ outer) t at c s e h = gap_blank _ at c s e h
   after_blank (frame.in_member object_at ms k key_at ∷ outer) t at c s e h = gap_blank _ at c s e h
   after_blank (frame.in_object object_at ms ∷ outer) t at c s e h = h
 
-  after_crlf : (stack : List Frame) (t : Tree) (at : Place) (c : ℕ) (s : List ℕ) → c ≡ carriage_return → FeedThen (AfterValue T stack t) (next_place at c) s → AfterValue T stack t at (c ∷ s)
+  -- a line end more
+  after_crlf : (stack : List Frame) (t : Tree) (at : Place) (c : ℕ) (s : List ℕ) → c ≡ carriage_return →
+      FeedThen (AfterValue T stack t) (next_place at c) s → AfterValue T stack t at (c ∷ s)
   after_crlf [] t at c s e h = gap_crlf _ at c s e h
   after_crlf (frame.in_list list_at ts ∷ outer) t at c s e h = gap_crlf _ at c s e h
   after_crlf (frame.in_member object_at ms k key_at ∷ outer) t at c s e h = gap_crlf _ at c s e h
   after_crlf (frame.in_object object_at ms ∷ outer) t at c s e h = h.2
 
-  after_spaces : (stack : List Frame) (t : Tree) (b : List ℕ) (at : Place) (s : List ℕ) → are_spaces b ≡ true → AfterValue T stack t (place_after at b) s → AfterValue T stack t at (b ++ s)
+  -- spaces and tabs more
+  after_spaces : (stack : List Frame) (t : Tree) (b : List ℕ) (at : Place) (s : List ℕ) → are_spaces b ≡ true →
+      AfterValue T stack t (place_after at b) s → AfterValue T stack t at (b ++ s)
   after_spaces stack t [] at s e h = h
   after_spaces stack t (c ∷ b) at s e h =
       let p = and_parts (is_space c) (are_spaces b) e in
@@ -58,7 +63,8 @@ module _ (T : Tree) where
         go false e = sym (subst (λ (x : List ℕ). is_literal x ≡ false) (ap encodes (append-nil uc) ∙ r.text) (r.hopeless e []))
 
     -- no comment, or no literal
-    slash_or : (c : ℕ) (s : List ℕ) → (ends_literal c && is_asked) ≡ false → (c == slash && is_asked) ≡ false → (is_asked ≡ false) ⊎ (at_comment (c ∷ s) ≡ false)
+    slash_or : (c : ℕ) (s : List ℕ) → (ends_literal c && is_asked) ≡ false → (c == slash && is_asked) ≡ false →
+        (is_asked ≡ false) ⊎ (at_comment (c ∷ s) ≡ false)
     slash_or c s e f = go is_asked (c == hash) (c == slash) refl refl refl
       where
         go : (x y z : Bool) → is_asked ≡ x → (c == hash) ≡ y → (c == slash) ≡ z → (x ≡ false) ⊎ (at_comment (c ∷ s) ≡ false)
@@ -68,7 +74,8 @@ module _ (T : Tree) where
         go true false false a b d = inr (rw (b, d) refl)
 
     -- the literal ends here
-    pub taken_here : (uc bc : List ℕ) (at : Place) (s : List ℕ) → PlainRead u blanks hope uc bc at0 at → is_literal u ≡ true → may_follow s ≡ true → AfterValue T stack (plain_tree u at0) at s → TakenThen T stack at0 uc (bc ++ s)
+    pub taken_here : (uc bc : List ℕ) (at : Place) (s : List ℕ) → PlainRead u blanks hope uc bc at0 at → is_literal u ≡ true → may_follow s ≡ true →
+        AfterValue T stack (plain_tree u at0) at s → TakenThen T stack at0 uc (bc ++ s)
     taken_here uc bc at s r l f h =
         let e : encodes (uc ++ []) ≡ u = ap encodes (append-nil uc) ∙ r.text in
         let g : AfterValue T stack (plain_tree u at0) (place_after (place_after at0 uc) bc) s = subst (λ (x : Place). AfterValue T stack (plain_tree u at0) x s) (sym r.at_end ∙ place_append at0 uc bc) h in
@@ -84,6 +91,7 @@ module _ (T : Tree) where
     none_behind : (uc : List ℕ) (d : ℕ) (v r : List ℕ) → is_wordy d ≡ false → is_taken (uc ++ d ∷ v) r ≡ false
     none_behind uc d v r h = rw (none_in_literal uc v d h) refl
 
+    -- none is taken here
     none_empty : (uc x : List ℕ) → encodes uc ≡ u → (is_literal u && may_follow x) ≡ false → is_taken (uc ++ []) x ≡ false
     none_empty uc x e f = rw (append-nil, e) f
 
@@ -100,7 +108,8 @@ module _ (T : Tree) where
         rw (← a) (none_behind uc b v r (space_no_word b p.0))
 
     -- a character that is neither a space nor a tab goes on, with hope `next` behind it
-    pub extend : (next : Bool) (c : ℕ) (here : Place) (s : List ℕ) → is_space c ≡ false → is_control c ≡ false → (is_asked && may_follow (c ∷ s)) ≡ false → (next ≡ false → (hope ≡ false) ⊎ (is_wordy c ≡ false)) →
+    pub extend : (next : Bool) (c : ℕ) (here : Place) (s : List ℕ) → is_space c ≡ false → is_control c ≡ false →
+        (is_asked && may_follow (c ∷ s)) ≡ false → (next ≡ false → (hope ≡ false) ⊎ (is_wordy c ≡ false)) →
         PlainThen T stack (u ++ blanks ++ encode_utf8 c) [] next at0 (next_place here c) s → PlainThen T stack u blanks hope at0 here (c ∷ s)
     extend next c here s sp ct untaken fades h uc bc r =
         let uc2 : List ℕ = uc ++ bc ++ c ∷ [] in
@@ -115,11 +124,14 @@ module _ (T : Tree) where
         step : (uc bc v : List ℕ) → uc ++ bc ++ c ∷ [] ++ v ≡ uc ++ (bc ++ c ∷ v)
         step uc bc v = rw append_assoc (rw append_assoc refl)
 
-        faded : (uc bc x : List ℕ) → PlainRead u blanks hope uc bc at0 here → (hope ≡ false) ⊎ (is_wordy c ≡ false) → is_literal (encodes (uc ++ bc ++ c ∷ [] ++ x)) ≡ false
+        faded : (uc bc x : List ℕ) → PlainRead u blanks hope uc bc at0 here → (hope ≡ false) ⊎ (is_wordy c ≡ false) →
+            is_literal (encodes (uc ++ bc ++ c ∷ [] ++ x)) ≡ false
         faded uc bc x r (inl e) = rw (step uc bc x) (r.hopeless e (bc ++ c ∷ x))
         faded uc bc x r (inr e) = rw append_assoc (none_in_literal (uc ++ bc) x c e)
 
-        go : (uc bc : List ℕ) → PlainRead u blanks hope uc bc at0 here → (is_literal u && may_follow (c ∷ s)) ≡ false → TakenThen T stack at0 (uc ++ bc ++ c ∷ []) s ⊎ UnquotedThen T stack at0 (uc ++ bc ++ c ∷ []) [] (next_place here c) s → TakenThen T stack at0 uc (bc ++ c ∷ s) ⊎ UnquotedThen T stack at0 uc bc here (c ∷ s)
+        go : (uc bc : List ℕ) → PlainRead u blanks hope uc bc at0 here → (is_literal u && may_follow (c ∷ s)) ≡ false →
+            TakenThen T stack at0 (uc ++ bc ++ c ∷ []) s ⊎ UnquotedThen T stack at0 (uc ++ bc ++ c ∷ []) [] (next_place here c) s →
+            TakenThen T stack at0 uc (bc ++ c ∷ s) ⊎ UnquotedThen T stack at0 uc bc here (c ∷ s)
         go uc bc r n (inl h) =
             inl (
               bc ++ c ∷ h.0,
@@ -139,7 +151,8 @@ module _ (T : Tree) where
             )
 
     -- a space goes on
-    extend_space : (c : ℕ) (here : Place) (s : List ℕ) → is_space c ≡ true → PlainThen T stack u (blanks ++ encode_utf8 c) hope at0 (next_place here c) s → PlainThen T stack u blanks hope at0 here (c ∷ s)
+    extend_space : (c : ℕ) (here : Place) (s : List ℕ) → is_space c ≡ true →
+        PlainThen T stack u (blanks ++ encode_utf8 c) hope at0 (next_place here c) s → PlainThen T stack u blanks hope at0 here (c ∷ s)
     extend_space c here s sp h uc bc r =
         let bc2 : List ℕ = bc ++ c ∷ [] in
         let r2 : PlainRead u (blanks ++ encode_utf8 c) hope uc bc2 at0 (next_place here c) = record {
@@ -152,7 +165,8 @@ module _ (T : Tree) where
         } in
         go uc bc (h uc bc2 r2)
       where
-        go : (uc bc : List ℕ) → TakenThen T stack at0 uc (bc ++ c ∷ [] ++ s) ⊎ UnquotedThen T stack at0 uc (bc ++ c ∷ []) (next_place here c) s → TakenThen T stack at0 uc (bc ++ c ∷ s) ⊎ UnquotedThen T stack at0 uc bc here (c ∷ s)
+        go : (uc bc : List ℕ) → TakenThen T stack at0 uc (bc ++ c ∷ [] ++ s) ⊎ UnquotedThen T stack at0 uc (bc ++ c ∷ []) (next_place here c) s →
+            TakenThen T stack at0 uc (bc ++ c ∷ s) ⊎ UnquotedThen T stack at0 uc bc here (c ∷ s)
         go uc bc (inl h) = inl (subst (λ (x : List ℕ). TakenThen T stack at0 uc x) (append_assoc bc (c ∷ []) s) h)
         go uc bc (inr h) =
             inr (
@@ -165,11 +179,13 @@ module _ (T : Tree) where
             )
 
     -- none is taken before a character that stands in no literal
-    low_none : (uc bc : List ℕ) (c : ℕ) (s : List ℕ) → encodes uc ≡ u → are_spaces bc ≡ true → is_wordy c ≡ false → is_literal u ≡ false → NoneTaken uc (bc ++ c ∷ s)
+    low_none : (uc bc : List ℕ) (c : ℕ) (s : List ℕ) → encodes uc ≡ u → are_spaces bc ≡ true → is_wordy c ≡ false → is_literal u ≡ false →
+        NoneTaken uc (bc ++ c ∷ s)
     low_none uc bc c s e sp low l = none_spaces uc bc c s e sp (rw l refl) (λ v r x. none_behind (uc ++ bc) c v r low)
 
     -- the line ends here
-    pub line_here : (c : ℕ) (here : Place) (s : List ℕ) → is_wordy c ≡ false → is_space c ≡ false → at_line_end (c ∷ s) ≡ true → AfterValue T stack (plain_tree u at0) here (c ∷ s) → PlainThen T stack u blanks hope at0 here (c ∷ s)
+    pub line_here : (c : ℕ) (here : Place) (s : List ℕ) → is_wordy c ≡ false → is_space c ≡ false → at_line_end (c ∷ s) ≡ true →
+        AfterValue T stack (plain_tree u at0) here (c ∷ s) → PlainThen T stack u blanks hope at0 here (c ∷ s)
     line_here c here s low sp e h uc bc r =
         let w : trimmed (uc ++ (bc ++ [])) ≡ uc = ap (λ (x : List ℕ). trimmed (uc ++ x)) (append-nil bc) ∙ r.solid in
         elim (bool_cases (is_literal u)) as (λ _. TakenThen T stack at0 uc (bc ++ c ∷ s) ⊎ UnquotedThen T stack at0 uc bc here (c ∷ s)) [
@@ -185,7 +201,8 @@ module _ (T : Tree) where
         ]
 
     -- no literal is taken before this character
-    not_followed : (c : ℕ) (s : List ℕ) → (c == line_feed) ≡ false → (c == carriage_return) ≡ false → is_space c ≡ false → (ends_literal c && is_asked) ≡ false → (is_asked ≡ false) ⊎ (at_comment (c ∷ s) ≡ false) → (is_asked && may_follow (c ∷ s)) ≡ false
+    not_followed : (c : ℕ) (s : List ℕ) → (c == line_feed) ≡ false → (c == carriage_return) ≡ false → is_space c ≡ false →
+        (ends_literal c && is_asked) ≡ false → (is_asked ≡ false) ⊎ (at_comment (c ∷ s) ≡ false) → (is_asked && may_follow (c ∷ s)) ≡ false
     not_followed c s feed return sp el (inl l) = rw l refl
     not_followed c s feed return sp el (inr nc) = rw (sp, nc, feed, return) (go is_asked (ends_literal c) el)
       where
@@ -203,7 +220,9 @@ module _ (T : Tree) where
         go true true a b e = inr (grind (arith, nat_tests))
         go true false a b e = never (sym e)
 
-    pub back_plain : (here : Place) (c : ℕ) (s : List ℕ) → Left T (in_plain here stack u blanks hope at0 c) (next_place here c) s → PlainThen T stack u blanks hope at0 here (c ∷ s)
+    -- in a literal or an unquoted string
+    pub back_plain : (here : Place) (c : ℕ) (s : List ℕ) → Left T (in_plain here stack u blanks hope at0 c) (next_place here c) s →
+        PlainThen T stack u blanks hope at0 here (c ∷ s)
     unfolding in_plain
     back_plain here c s =
         by_cases (c == line_feed) _ _
@@ -226,7 +245,8 @@ module _ (T : Tree) where
         (λ ct h. extend (hope && not (is_no_part c)) c here s sp ct (not_followed c s feed return sp el (slash_or c s el sl)) (hope_lost c) h.left))))))
 
   -- behind a carriage return
-  pub back_plain_return : (stack : List Frame) (u : List ℕ) (at0 here : Place) (c : ℕ) (s : List ℕ) → Left T (in_plain_return stack u at0 c) (next_place here c) s → FeedThen (AfterValue T stack (plain_tree u at0)) here (c ∷ s)
+  pub back_plain_return : (stack : List Frame) (u : List ℕ) (at0 here : Place) (c : ℕ) (s : List ℕ) →
+      Left T (in_plain_return stack u at0 c) (next_place here c) s → FeedThen (AfterValue T stack (plain_tree u at0)) here (c ∷ s)
   unfolding in_plain_return
   back_plain_return stack u at0 here c s =
       by_cases (c == line_feed) _ _

@@ -37,7 +37,8 @@ none_follows c s b e = let f = or_parts (c == slash) (c == star) e in rw (f.0, f
 
 module _ (T : Tree) (stack : List Frame) where
   -- behind a literal and a slash
-  pub back_plain_slash : (u blanks : List ℕ) (at0 here : Place) (c : ℕ) (s : List ℕ) → Left T (in_plain_slash here stack u blanks at0 c) (next_place here c) s → LeftNow T stack None (now.plain_slash u blanks at0) here (c ∷ s)
+  pub back_plain_slash : (u blanks : List ℕ) (at0 here : Place) (c : ℕ) (s : List ℕ) →
+      Left T (in_plain_slash here stack u blanks at0 c) (next_place here c) s → LeftNow T stack None (now.plain_slash u blanks at0) here (c ∷ s)
   unfolding in_plain_slash
   back_plain_slash u blanks at0 here c s =
       by_cases (c == slash || c == star) _ _
@@ -50,17 +51,20 @@ module _ (T : Tree) (stack : List Frame) where
       extend T stack u blanks true at0 false slash at1 (c ∷ s) refl refl (none_follows c s (is_literal u) e) (λ f. inr refl) y)
 
   -- a key or an unquoted value that a slash began
-  begun_now : (σ : State) (n : Now) (here : Place) (c : ℕ) (s : List ℕ) → Left T (begun_step here σ n c) (next_place here c) s → LeftNow T σ.stack σ.found n here (c ∷ s)
+  begun_now : (σ : State) (n : Now) (here : Place) (c : ℕ) (s : List ℕ) → Left T (begun_step here σ n c) (next_place here c) s →
+      LeftNow T σ.stack σ.found n here (c ∷ s)
   begun_now σ (now.key k key_at) here c s h = back_key T σ.stack k key_at here c s h
   begun_now σ (now.plain u blanks hope at0) here c s h = back_plain T σ.stack u blanks hope at0 here c s h
   begun_now σ n here c s h = stuck h
 
+  -- the same, if there is a state
   begun : (o : Option State) (here : Place) (c : ℕ) (s : List ℕ) → Left T (then_begun here c o) (next_place here c) s → Left T o here (c ∷ s)
   begun None here c s h = stuck h
   begun (Some σ) here c s h = record { left = begun_now σ σ.now here c s h }
 
   -- behind a slash in a gap
-  pub back_slash : (found : Option Tree) (p : Awaited) (at0 here : Place) (c : ℕ) (s : List ℕ) → Left T (in_slash here stack found p at0 c) (next_place here c) s → LeftNow T stack found (now.slash p at0) here (c ∷ s)
+  pub back_slash : (found : Option Tree) (p : Awaited) (at0 here : Place) (c : ℕ) (s : List ℕ) →
+      Left T (in_slash here stack found p at0 c) (next_place here c) s → LeftNow T stack found (now.slash p at0) here (c ∷ s)
   unfolding in_slash
   back_slash found p at0 here c s =
       by_cases (c == slash || c == star) _ _

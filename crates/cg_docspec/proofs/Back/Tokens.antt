@@ -41,7 +41,9 @@ module _ (T : Tree) where
   after_delivered (frame.in_member object_at ms k key_at ∷ outer) t at s h = h.left
   after_delivered (frame.in_object object_at ms ∷ outer) t at s h = h.left
 
-  pub after_key : (stack : List Frame) (k : List ℕ) (key_at at : Place) (s : List ℕ) → Left T (keyed stack k key_at) at s → KeyThen T stack k key_at at s
+  -- and behind a key
+  pub after_key : (stack : List Frame) (k : List ℕ) (key_at at : Place) (s : List ℕ) → Left T (keyed stack k key_at) at s →
+      KeyThen T stack k key_at at s
   unfolding keyed
   after_key [] k key_at at s h = h.left
   after_key (frame.in_list list_at ts ∷ outer) k key_at at s h = h.left
@@ -49,12 +51,15 @@ module _ (T : Tree) where
   after_key (frame.in_object object_at ms ∷ outer) k key_at at s h = h.left
 
   -- an object, and a list, that opens here
-  object_then : (stack : List Frame) (here : Place) (c : ℕ) (s : List ℕ) → c ≡ open_brace → GapThen (ObjectRest (AfterValue T stack) here []) (next_place here c) s →
+  object_then : (stack : List Frame) (here : Place) (c : ℕ) (s : List ℕ) → c ≡ open_brace →
+      GapThen (ObjectRest (AfterValue T stack) here []) (next_place here c) s →
       (t : Tree) × (at1 : Place) × (s1 : List ℕ) × Object here (c ∷ s) t at1 s1 × AfterValue T stack t at1 s1
   object_then stack here c s e h =
       (object_of h.3.0 here, next_place h.3.1 h.3.2, h.3.3, object e h.2 h.3.4 h.3.5, h.3.6)
 
-  list_then : (stack : List Frame) (here : Place) (c : ℕ) (s : List ℕ) → c ≡ open_bracket → GapThen (ListRest (AfterValue T stack) here []) (next_place here c) s → ValueThen T stack here (c ∷ s)
+  -- a list that opens here
+  list_then : (stack : List Frame) (here : Place) (c : ℕ) (s : List ℕ) → c ≡ open_bracket →
+      GapThen (ListRest (AfterValue T stack) here []) (next_place here c) s → ValueThen T stack here (c ∷ s)
   list_then stack here c s e h =
       (list_of h.3.0 here, next_place h.3.1 h.3.2, h.3.3, list_value e h.2 h.3.4 h.3.5, h.3.6)
 
@@ -71,7 +76,8 @@ module _ (T : Tree) where
   is_key_of c a b = grind (arith, nat_tests)
 
   -- a literal or an unquoted string that begins here
-  plain_then : (stack : List Frame) (here : Place) (c : ℕ) (s : List ℕ) → is_key c ≡ true → is_control c ≡ false → is_space c ≡ false → is_quote c ≡ false → at_comment (c ∷ s) ≡ false →
+  plain_then : (stack : List Frame) (here : Place) (c : ℕ) (s : List ℕ) → is_key c ≡ true → is_control c ≡ false → is_space c ≡ false →
+      is_quote c ≡ false → at_comment (c ∷ s) ≡ false →
       TakenThen T stack here (c ∷ []) s ⊎ UnquotedThen T stack here (c ∷ []) [] (next_place here c) s → ValueThen T stack here (c ∷ s)
   plain_then stack here c s k n sp q nc (inl h) =
       subst (λ (x : List ℕ). ValueThen T stack here (c ∷ x)) (sym h.2) (
@@ -88,10 +94,13 @@ module _ (T : Tree) where
   first_read : (here : Place) (c : ℕ) → is_space c ≡ false → PlainRead (encode_utf8 c) [] true (c ∷ []) [] here (next_place here c)
   first_read here c e = record { text = append-nil (encode_utf8 c); behind = refl; spaces = refl; solid = rw e refl; at_end = refl; hopeless = λ e. never (sym e) }
 
+  -- no blank is no space
   not_space : (c : ℕ) → is_blank c ≡ false → is_space c ≡ false
   not_space c e = grind (arith, nat_tests)
 
-  pub back_value : (stack : List Frame) (here : Place) (c : ℕ) (s : List ℕ) → is_blank c ≡ false → at_comment (c ∷ s) ≡ false → Left T (begin_value here stack c) (next_place here c) s → ValueThen T stack here (c ∷ s)
+  -- a value begins
+  pub back_value : (stack : List Frame) (here : Place) (c : ℕ) (s : List ℕ) → is_blank c ≡ false → at_comment (c ∷ s) ≡ false →
+      Left T (begin_value here stack c) (next_place here c) s → ValueThen T stack here (c ∷ s)
   unfolding begin_value
   back_value stack here c s nb nc =
       by_cases (c == open_brace) _ _
@@ -107,7 +116,8 @@ module _ (T : Tree) where
       (λ e h. plain_then stack here c s (is_key_of c nb e4) (or_parts _ _ e4).1 (not_space c nb) e nc (h.left (c ∷ []) [] (first_read here c (not_space c nb)))))))
 
   -- a member that begins here
-  key_then : (object_at : Place) (ms : List Member) (outer : List Frame) (here at1 : Place) (k s s1 : List ℕ) → Key here s k at1 s1 → KeyThen T (frame.in_object object_at ms ∷ outer) k here at1 s1 → ObjectRest (AfterValue T outer) object_at ms here s
+  key_then : (object_at : Place) (ms : List Member) (outer : List Frame) (here at1 : Place) (k s s1 : List ℕ) → Key here s k at1 s1 →
+      KeyThen T (frame.in_object object_at ms ∷ outer) k here at1 s1 → ObjectRest (AfterValue T outer) object_at ms here s
   key_then object_at ms outer here at1 k s s1 key h =
       let g : Gap at1 s1 h.0 (h.3.0 ∷ h.3.1) = subst (λ (x : List ℕ). Gap at1 s1 h.0 x) h.3.2 h.2 in
       let g2 = h.3.4 in
@@ -124,7 +134,9 @@ module _ (T : Tree) where
         rw append_assoc at m.6,
       )
 
-  pub back_item : (stack : List Frame) (here : Place) (c : ℕ) (s : List ℕ) → is_blank c ≡ false → at_comment (c ∷ s) ≡ false → Left T (begin_item here stack c) (next_place here c) s → ItemRest T stack here (c ∷ s)
+  -- an item begins, or what is open is closed
+  pub back_item : (stack : List Frame) (here : Place) (c : ℕ) (s : List ℕ) → is_blank c ≡ false → at_comment (c ∷ s) ≡ false →
+      Left T (begin_item here stack c) (next_place here c) s → ItemRest T stack here (c ∷ s)
   unfolding begin_item
   back_item [] here c s nb nc = λ h. h.left
   back_item (frame.in_list list_at ts ∷ outer) here c s nb nc =
@@ -146,7 +158,9 @@ module _ (T : Tree) where
       (λ e. stuck)))
   back_item (frame.in_member object_at ms k key_at ∷ outer) here c s nb nc = λ h. h.left
 
-  pub back_token : (stack : List Frame) (found : Option Tree) (here : Place) (p : Awaited) (c : ℕ) (s : List ℕ) → is_blank c ≡ false → at_comment (c ∷ s) ≡ false → Left T (begin_token here stack p c) (next_place here c) s → AwaitedThen T stack found p here (c ∷ s)
+  -- what stands behind a gap begins
+  pub back_token : (stack : List Frame) (found : Option Tree) (here : Place) (p : Awaited) (c : ℕ) (s : List ℕ) → is_blank c ≡ false →
+      at_comment (c ∷ s) ≡ false → Left T (begin_token here stack p c) (next_place here c) s → AwaitedThen T stack found p here (c ∷ s)
   unfolding begin_token
   back_token stack found here awaited.root c s nb nc = by_cases (c == open_brace) _ _ (λ e h. object_then stack here c s (same_character c open_brace e) h.left) (λ e. stuck)
   back_token stack found here (awaited.item true) c s nb nc =

@@ -38,7 +38,8 @@ abbrev pub Completed : List Frame → (Tree → Type 0) → Type 0
 Completed stack P = (T : Tree) × P T × (Kept stack None → Low 64 T)
 
 -- behind the value t
-pub close_value : (stack : List Frame) → TakesValue stack → (t : Tree) (at : Place) → (T : Tree) × AfterValue T stack t at (closing stack) × ((room : ℕ) → Held room stack → Low room t → Low 64 T)
+pub close_value : (stack : List Frame) → TakesValue stack → (t : Tree) (at : Place) →
+    (T : Tree) × AfterValue T stack t at (closing stack) × ((room : ℕ) → Held room stack → Low room t → Low 64 T)
 close_value [] v t at = (t, (at, [], no_gap, (refl, refl)), λ room h l. subst (λ (n : ℕ). Low n t) h l)
 close_value (frame.in_list list_at ts ∷ outer) v t at =
     let x = close_value outer v (list_of (ts ++ t ∷ [] ++ []) list_at) (next_place at close_bracket) in (
@@ -59,6 +60,7 @@ close_value (frame.in_object object_at ms ∷ outer) v t at = absurd v
 abbrev pub empty_string : List ℕ
 empty_string = double_quote ∷ double_quote ∷ []
 
+-- where a value is awaited
 new_value : (stack : List Frame) → TakesValue stack → (at : Place) → Completed stack (λ T. ValueThen T stack at (empty_string ++ closing stack))
 new_value stack v at =
     let t : Tree = string_of [] at in
@@ -67,26 +69,30 @@ new_value stack v at =
     (x.0, (t, there, closing stack, leaf_value (quoted refl refl (closes refl)), x.1), λ k. x.2 k.room k.held tt)
 
 -- where an item is awaited: nothing more
-close_item : (stack : List Frame) (found : Option Tree) (b : Bool) → TakesItem stack → (at : Place) → Completed stack (λ T. AwaitedThen T stack found (awaited.item b) at (closing stack))
+close_item : (stack : List Frame) (found : Option Tree) (b : Bool) → TakesItem stack → (at : Place) →
+    Completed stack (λ T. AwaitedThen T stack found (awaited.item b) at (closing stack))
 close_item [] found b v at = absurd v
 close_item (frame.in_member object_at ms k key_at ∷ outer) found b v at = absurd v
 close_item (frame.in_list list_at ts ∷ outer) found b v at =
     let x = close_value outer v (list_of (ts ++ []) list_at) (next_place at close_bracket) in
     (x.0, go x.0 b ([], at, close_bracket, closing outer, no_value, refl, x.1), λ k. x.2 (suc k.room) k.held.1 (low_trees k.room ts [] k.held.0 tt))
   where
-    go : (T : Tree) (b : Bool) → ListRest (AfterValue T outer) list_at ts at (closing (frame.in_list list_at ts ∷ outer)) → AwaitedThen T (frame.in_list list_at ts ∷ outer) found (awaited.item b) at (closing (frame.in_list list_at ts ∷ outer))
+    go : (T : Tree) (b : Bool) → ListRest (AfterValue T outer) list_at ts at (closing (frame.in_list list_at ts ∷ outer)) →
+        AwaitedThen T (frame.in_list list_at ts ∷ outer) found (awaited.item b) at (closing (frame.in_list list_at ts ∷ outer))
     go T true r = (at, close_bracket ∷ closing outer, no_comma, r)
     go T false r = r
 close_item (frame.in_object object_at ms ∷ outer) found b v at =
     let x = close_value outer v (object_of (ms ++ []) object_at) (next_place at close_brace) in
     (x.0, go x.0 b ([], at, close_brace, closing outer, no_member, refl, x.1), λ k. x.2 (suc k.room) k.held.1 (low_members k.room ms [] k.held.0 tt))
   where
-    go : (T : Tree) (b : Bool) → ObjectRest (AfterValue T outer) object_at ms at (closing (frame.in_object object_at ms ∷ outer)) → AwaitedThen T (frame.in_object object_at ms ∷ outer) found (awaited.item b) at (closing (frame.in_object object_at ms ∷ outer))
+    go : (T : Tree) (b : Bool) → ObjectRest (AfterValue T outer) object_at ms at (closing (frame.in_object object_at ms ∷ outer)) →
+        AwaitedThen T (frame.in_object object_at ms ∷ outer) found (awaited.item b) at (closing (frame.in_object object_at ms ∷ outer))
     go T true r = (at, close_brace ∷ closing outer, no_comma, r)
     go T false r = r
 
 -- the document's object
-close_root : (stack : List Frame) (found : Option Tree) → stack ≡ [] → (at : Place) → Completing stack found (λ T m. AwaitedThen T stack found awaited.root at m)
+close_root : (stack : List Frame) (found : Option Tree) → stack ≡ [] → (at : Place) →
+    Completing stack found (λ T m. AwaitedThen T stack found awaited.root at m)
 close_root [] found v at =
     let t : Tree = object_of [] at in
     let there : Place = next_place (next_place at open_brace) close_brace in
@@ -94,7 +100,9 @@ close_root [] found v at =
     (open_brace ∷ close_brace ∷ [], x.0, (t, there, [], object refl no_gap no_member refl, x.1), λ k. x.2 64 refl tt)
 close_root (f ∷ stack) found v at = cc
 
-pub close_awaited : (stack : List Frame) (found : Option Tree) (p : Awaited) → FineAwaited stack found p → (at : Place) → Completing stack found (λ T m. AwaitedThen T stack found p at m)
+-- behind a gap
+pub close_awaited : (stack : List Frame) (found : Option Tree) (p : Awaited) → FineAwaited stack found p → (at : Place) →
+    Completing stack found (λ T m. AwaitedThen T stack found p at m)
 close_awaited stack found awaited.root v at = close_root stack found v at
 close_awaited stack found (awaited.item b) v at = let x = close_item stack found b v at in (closing stack, x.0, x.1, λ k. x.2 (unfound stack found k))
 close_awaited stack found awaited.colon v at =
@@ -111,7 +119,9 @@ key_closing (frame.in_list at ts ∷ outer) = []
 key_closing (frame.in_member at ms k key_at ∷ outer) = []
 key_closing (frame.in_object at ms ∷ outer) = colon ∷ (empty_string ++ close_brace ∷ closing outer)
 
-pub close_key : (stack : List Frame) → TakesKey stack → (k : List ℕ) (key_at at : Place) → Completed stack (λ T. KeyThen T stack k key_at at (key_closing stack))
+-- behind a key: a colon and an empty string
+pub close_key : (stack : List Frame) → TakesKey stack → (k : List ℕ) (key_at at : Place) →
+    Completed stack (λ T. KeyThen T stack k key_at at (key_closing stack))
 close_key [] v k key_at at = absurd v
 close_key (frame.in_list list_at ts ∷ outer) v k key_at at = absurd v
 close_key (frame.in_member object_at ms k1 key_at1 ∷ outer) v k key_at at = absurd v
@@ -135,17 +145,22 @@ key_ends (frame.in_object object_at ms ∷ outer) v = refl
 abbrev letter_a : ℕ
 letter_a = 97
 
+-- what closes a multi-line string
 abbrev line_closing : List Frame → List ℕ
 line_closing stack = letter_a ∷ single_quote ∷ single_quote ∷ single_quote ∷ closing stack
 
-close_lines : (stack : List Frame) → TakesValue stack → (u : List ℕ) (ended : Bool) (at0 : Place) (f : List ℕ → List ℕ) (at : Place) → Completed stack (λ T. LinesThen T stack u ended at0 f at (line_closing stack))
+-- behind some characters of it
+close_lines : (stack : List Frame) → TakesValue stack → (u : List ℕ) (ended : Bool) (at0 : Place) (f : List ℕ → List ℕ) (at : Place) →
+    Completed stack (λ T. LinesThen T stack u ended at0 f at (line_closing stack))
 close_lines stack v u ended at0 f at =
     let t : Tree = string_of (u ++ encodes (without_last_feed (pending ended ++ f (letter_a ∷ [])))) at0 in
     let there : Place = place_after (next_place at letter_a) three_quotes in
     let x = close_value stack v t there in
     (x.0, (letter_a ∷ [], there, closing stack, lines_more refl (inl refl) (lines_end refl refl refl), x.1), λ k. x.2 k.room k.held tt)
 
-pub close_spot : (stack : List Frame) → TakesValue stack → (u : List ℕ) (ended : Bool) (k : ℕ) (p : Spot) (at0 at : Place) → Completing stack None (λ T m. LinesLeft T stack u ended k p at0 at m)
+-- at each spot of it
+pub close_spot : (stack : List Frame) → TakesValue stack → (u : List ℕ) (ended : Bool) (k : ℕ) (p : Spot) (at0 at : Place) →
+    Completing stack None (λ T m. LinesLeft T stack u ended k p at0 at m)
 close_spot stack v u ended k spot.opening at0 at = let x = close_lines stack v u ended at0 (opened k) at in (line_closing stack, x.0, x.1, x.2)
 close_spot stack v u ended k (spot.indent n) at0 at = let x = close_lines stack v u ended at0 (undented k n) at in (line_closing stack, x.0, x.1, x.2)
 close_spot stack v u ended k spot.inside at0 at = let x = close_lines stack v u ended at0 (undented k 0) at in (line_closing stack, x.0, x.1, x.2)

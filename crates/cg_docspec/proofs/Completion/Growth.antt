@@ -35,10 +35,12 @@ IsOver here (frame.in_object at ms ∷ outer) (now.gap (awaited.item false)) = (
 IsOver here (frame.in_list at ts ∷ outer) (now.gap (awaited.item false)) = (at ≡ here) × Held 0 outer
 IsOver here stack n = ⊥
 
+-- 64 levels suffice, or an opener of depth 65 was read
 abbrev pub GrownIn : Place → Option State → Type 0
 GrownIn here None = Unit {0}
 GrownIn here (Some σ) = Kept σ.stack σ.found ⊎ IsOver here σ.stack σ.now
 
+-- the same as a record
 pub record Grown (here : Place) (o : Option State) : Type 0 where
   pub grown : GrownIn here o
 
@@ -49,28 +51,35 @@ no_key here (frame.in_list at ts ∷ outer) k key_at w = w
 no_key here (frame.in_object at ms ∷ outer) k key_at w = w
 no_key here (frame.in_member at ms k2 key_at2 ∷ outer) k key_at w = w
 
+-- nor a value without quotes
 no_plain : (here : Place) (stack : List Frame) (u b : List ℕ) (hope : Bool) (at0 : Place) → IsOver here stack (now.plain u b hope at0) → ⊥
 no_plain here [] u b hope at0 w = w
 no_plain here (frame.in_list at ts ∷ outer) u b hope at0 w = w
 no_plain here (frame.in_object at ms ∷ outer) u b hope at0 w = w
 no_plain here (frame.in_member at ms k2 key_at2 ∷ outer) u b hope at0 w = w
 
+-- the same while no tree was found
 pub unfound : (stack : List Frame) (found : Option Tree) → Kept stack found → Kept stack None
 unfound stack found k = record { room = k.room; held = k.held; low = tt }
 
 module _ (here : Place) where
+  -- both branches of a choice
   choice : (b : Bool) (x y : Option State) → Grown here x → Grown here y → Grown here (cond b x y)
   choice true x y f g = f
   choice false x y f g = g
 
+  -- no state
   none : Grown here None
   none = record { grown = tt }
 
-  kept : (stack : List Frame) (n : Now) (found : Option Tree) → Kept stack found → Grown here (Some (record { stack = stack; now = n; found = found }))
+  -- what is open stays
+  kept : (stack : List Frame) (n : Now) (found : Option Tree) → Kept stack found →
+      Grown here (Some (record { stack = stack; now = n; found = found }))
   kept stack n found k = record { grown = inl k }
 
   -- ---- what opens and closes
 
+  -- an object opens
   opens_object : (stack : List Frame) → Kept stack None → Grown here (Some (opened_object here stack))
   opens_object stack k = go k.room k.held
     where
@@ -78,6 +87,7 @@ module _ (here : Place) where
       go zero h = record { grown = inr (refl, h) }
       go (suc room) h = record { grown = inl (record { room = room; held = (tt, h); low = tt }) }
 
+  -- a list opens
   opens_list : (stack : List Frame) → Kept stack None → Grown here (Some (opened_list here stack))
   opens_list stack k = go k.room k.held
     where
@@ -85,6 +95,7 @@ module _ (here : Place) where
       go zero h = record { grown = inr (refl, h) }
       go (suc room) h = record { grown = inl (record { room = room; held = (tt, h); low = tt }) }
 
+  -- a value is closed
   keeps_delivered : (stack : List Frame) (t : Tree) (room : ℕ) → Held room stack → Low room t → Grown here (delivered stack t)
   unfolding delivered
   keeps_delivered [] t room h l = record { grown = inl (record { room = room; held = h; low = subst (λ (n : ℕ). Low n t) h l }) }
@@ -93,6 +104,7 @@ module _ (here : Place) where
       record { grown = inl (record { room = room; held = (low_members room ms (record { key = k; key_place = key_at; value = t } ∷ []) h.0 (l, tt), h.1); low = tt }) }
   keeps_delivered (frame.in_object at ms ∷ outer) t room h l = none
 
+  -- a key is read
   keeps_keyed : (stack : List Frame) (k : List ℕ) (key_at : Place) → Kept stack None → Grown here (keyed stack k key_at)
   unfolding keyed
   keeps_keyed [] k key_at l = none
@@ -102,6 +114,7 @@ module _ (here : Place) where
 
   -- ---- tokens and gaps
 
+  -- a value begins
   keeps_value : (stack : List Frame) (c : ℕ) → Kept stack None → Grown here (begin_value here stack c)
   unfolding begin_value
   keeps_value stack c k =
@@ -110,6 +123,7 @@ module _ (here : Place) where
       (choice (is_mark c || is_control c) _ _ none
       (choice (is_quote c) _ _ (kept stack _ None k) (kept stack _ None k))))
 
+  -- an item begins, or what is open is closed
   keeps_item : (stack : List Frame) (c : ℕ) → Kept stack None → Grown here (begin_item here stack c)
   unfolding begin_item
   keeps_item [] c k = none
@@ -119,6 +133,7 @@ module _ (here : Place) where
       (choice (is_quote c) _ _ (kept _ _ None k) (choice (is_key c) _ _ (kept _ _ None k) none))
   keeps_item (frame.in_member at ms key key_at ∷ outer) c k = none
 
+  -- what stands behind a gap begins
   keeps_token : (stack : List Frame) (next : Awaited) (c : ℕ) → Kept stack None → Grown here (begin_token here stack next c)
   unfolding begin_token
   keeps_token stack awaited.root c k = choice (c == open_brace) _ _ (opens_object stack k) none
@@ -127,6 +142,7 @@ module _ (here : Place) where
   keeps_token stack awaited.value c k = keeps_value stack c k
   keeps_token stack awaited.end c k = none
 
+  -- in a gap
   keeps_gap : (stack : List Frame) (found : Option Tree) (next : Awaited) (c : ℕ) → Kept stack found → Grown here (in_gap here stack found next c)
   unfolding in_gap
   keeps_gap stack found next c k =
@@ -145,6 +161,7 @@ module _ (here : Place) where
       keeps_gap (frame.in_object at (ms ++ m ∷ []) ∷ outer) None (awaited.item true) c (record { room = room; held = (low_members room ms (m ∷ []) h.0 (l, tt), h.1); low = tt })
   keeps_after (frame.in_object at ms ∷ outer) t c room h l = none
 
+  -- in a key
   keeps_key : (stack : List Frame) (key : List ℕ) (key_at : Place) (c : ℕ) → Kept stack None → Grown here (in_key here stack key key_at c)
   unfolding in_key keyed
   keeps_key [] key key_at c k = choice (is_key c) _ _ (kept [] _ None k) none
@@ -155,7 +172,9 @@ module _ (here : Place) where
 
   -- ---- literals, unquoted strings and comments
 
-  keeps_plain : (stack : List Frame) (u blanks : List ℕ) (hope : Bool) (at0 : Place) (c : ℕ) → Kept stack None → Grown here (in_plain here stack u blanks hope at0 c)
+  -- in a literal or an unquoted string
+  keeps_plain : (stack : List Frame) (u blanks : List ℕ) (hope : Bool) (at0 : Place) (c : ℕ) → Kept stack None →
+      Grown here (in_plain here stack u blanks hope at0 c)
   unfolding in_plain
   keeps_plain stack u blanks hope at0 c k =
       choice (c == line_feed) _ _ (keeps_delivered stack (plain_tree u at0) k.room k.held (plain_low k.room u at0))
@@ -164,7 +183,9 @@ module _ (here : Place) where
       (choice (c == slash && (hope && is_literal u)) _ _ (kept stack _ None k)
       (choice (is_space c) _ _ (kept stack _ None k) (choice (is_control c) _ _ none (kept stack _ None k))))))
 
-  keeps_commented : (stack : List Frame) (t : Tree) (c : ℕ) (room : ℕ) → Held room stack → Low room t → Grown here (then_comment c (delivered stack t))
+  -- a comment begins behind a literal
+  keeps_commented : (stack : List Frame) (t : Tree) (c : ℕ) (room : ℕ) → Held room stack → Low room t →
+      Grown here (then_comment c (delivered stack t))
   unfolding delivered
   keeps_commented [] t c room h l = record { grown = inl (record { room = room; held = h; low = subst (λ (n : ℕ). Low n t) h l }) }
   keeps_commented (frame.in_list at ts ∷ outer) t c room h l = record { grown = inl (record { room = room; held = (low_trees room ts (t ∷ []) h.0 (l, tt), h.1); low = tt }) }
@@ -174,20 +195,28 @@ module _ (here : Place) where
 
   -- ---- quoted strings
 
-  keeps_escape : (stack : List Frame) (key : Bool) (q : ℕ) (u : List ℕ) (at0 : Place) (o : Option ℕ) → Kept stack None → Grown here (escape_more stack key q u at0 o)
+  -- behind an escape
+  keeps_escape : (stack : List Frame) (key : Bool) (q : ℕ) (u : List ℕ) (at0 : Place) (o : Option ℕ) → Kept stack None →
+      Grown here (escape_more stack key q u at0 o)
   keeps_escape stack key q u at0 None k = none
   keeps_escape stack key q u at0 (Some c) k = kept stack _ None k
 
-  keeps_unit_end : (stack : List Frame) (key : Bool) (q : ℕ) (u : List ℕ) (at0 : Place) (high : Option ℕ) (w : ℕ) → Kept stack None → Grown here (unit_end stack key q u at0 high w)
+  -- behind four digits
+  keeps_unit_end : (stack : List Frame) (key : Bool) (q : ℕ) (u : List ℕ) (at0 : Place) (high : Option ℕ) (w : ℕ) → Kept stack None →
+      Grown here (unit_end stack key q u at0 high w)
   keeps_unit_end stack key q u at0 None w k = choice (is_high w) _ _ (kept stack _ None k) (keeps_escape stack key q u at0 (scalar_or_none w) k)
   keeps_unit_end stack key q u at0 (Some h) w k = keeps_escape stack key q u at0 (scalar_or_none (paired h w)) k
 
-  keeps_unit : (stack : List Frame) (key : Bool) (q : ℕ) (u : List ℕ) (at0 : Place) (high : Option ℕ) (m w : ℕ) (o : Option ℕ) → Kept stack None → Grown here (unit_with stack key q u at0 high m w o)
+  -- one digit more
+  keeps_unit : (stack : List Frame) (key : Bool) (q : ℕ) (u : List ℕ) (at0 : Place) (high : Option ℕ) (m w : ℕ) (o : Option ℕ) → Kept stack None →
+      Grown here (unit_with stack key q u at0 high m w o)
   keeps_unit stack key q u at0 high m w None k = none
   keeps_unit stack key q u at0 high m w (Some d) k =
       choice (not (may_stand (is_some high) (m + 1) (w * 16 + d))) _ _ none (choice (nat_lt (m + 1) 4) _ _ (kept stack _ None k) (keeps_unit_end stack key q u at0 high (w * 16 + d) k))
 
-  keeps_quoted : (stack : List Frame) (key : Bool) (q : ℕ) (u : List ℕ) (at0 : Place) (e : Escape) (c : ℕ) → Kept stack None → Grown here (in_quoted stack key q u at0 e c)
+  -- in a quoted string
+  keeps_quoted : (stack : List Frame) (key : Bool) (q : ℕ) (u : List ℕ) (at0 : Place) (e : Escape) (c : ℕ) → Kept stack None →
+      Grown here (in_quoted stack key q u at0 e c)
   unfolding in_quoted outside_escape behind_backslash in_unit quoted_end
   keeps_quoted stack true q u at0 escape.none c k =
       choice (c == q) _ _ (keeps_keyed stack u at0 k) (choice (c == backslash) _ _ (kept stack _ None k) (choice (is_control c) _ _ none (kept stack _ None k)))
@@ -201,13 +230,17 @@ module _ (here : Place) where
 
   -- ---- multi-line strings
 
-  keeps_inside : (stack : List Frame) (u : List ℕ) (ended : Bool) (i m : ℕ) (at0 : Place) (c : ℕ) → Kept stack None → Grown here (inside_line stack u ended i m at0 c)
+  -- a character inside a line
+  keeps_inside : (stack : List Frame) (u : List ℕ) (ended : Bool) (i m : ℕ) (at0 : Place) (c : ℕ) → Kept stack None →
+      Grown here (inside_line stack u ended i m at0 c)
   unfolding inside_line
   keeps_inside stack u ended i m at0 c k =
       choice (c == single_quote) _ _ (choice (nat_lt m 2) _ _ (kept stack _ None k) (keeps_delivered stack (string_of u at0) k.room k.held tt))
       (choice (c == line_feed) _ _ (kept stack _ None k) (choice (c == carriage_return) _ _ (kept stack _ None k) (choice (is_control c) _ _ none (kept stack _ None k))))
 
-  keeps_lines : (stack : List Frame) (u : List ℕ) (ended : Bool) (i : ℕ) (at0 : Place) (p : Spot) (c : ℕ) → Kept stack None → Grown here (in_lines stack u ended i at0 p c)
+  -- at each spot of a multi-line string
+  keeps_lines : (stack : List Frame) (u : List ℕ) (ended : Bool) (i : ℕ) (at0 : Place) (p : Spot) (c : ℕ) → Kept stack None →
+      Grown here (in_lines stack u ended i at0 p c)
   unfolding in_lines
   keeps_lines stack u ended i at0 spot.opening c k =
       choice (is_space c) _ _ (kept stack _ None k)
@@ -231,7 +264,8 @@ keeps_begun here at0 (Some σ) c g = go σ.now g.grown
     go n w = none here
 
 -- one step
-pub keeps_step : (here : Place) (stack : List Frame) (found : Option Tree) (n : Now) (c : ℕ) → Kept stack found → Grown here (step here (record { stack = stack; now = n; found = found }) c)
+pub keeps_step : (here : Place) (stack : List Frame) (found : Option Tree) (n : Now) (c : ℕ) → Kept stack found →
+    Grown here (step here (record { stack = stack; now = n; found = found }) c)
 unfolding step in_gap_return in_comment in_block in_block_return in_plain_return in_plain_slash in_slash in_two_quotes
 keeps_step here stack found (now.gap next) c k = keeps_gap here stack found next c k
 keeps_step here stack found (now.gap_return next) c k = choice here (c == line_feed) _ _ (kept here stack _ found k) (none here)

@@ -21,6 +21,7 @@ abbrev mutual
   pub Low : ℕ → Tree → Type 0
   Low n (tree k at) = LowKind n k
 
+  -- the same of what a value is
   pub LowKind : ℕ → Kind → Type 0
   LowKind n null = Unit {0}
   LowKind n (boolean b) = Unit {0}
@@ -29,26 +30,32 @@ abbrev mutual
   LowKind n (array ts) = OneLess n (λ m. LowTrees m ts)
   LowKind n (Kind.object ms) = OneLess n (λ m. LowMembers m ms)
 
+  -- and of each value of a list
   pub LowTrees : ℕ → Trees → Type 0
   LowTrees n no_trees = Unit {0}
   LowTrees n (tree_and t ts) = Low n t × LowTrees n ts
 
+  -- and of each member of an object
   pub LowMembers : ℕ → Members → Type 0
   LowMembers n no_members = Unit {0}
   LowMembers n (member_and k at t ms) = Low n t × LowMembers n ms
 
+-- of two lists joined
 pub low_trees : (n : ℕ) (ts us : List Tree) → LowTrees n (trees ts) → LowTrees n (trees us) → LowTrees n (trees (ts ++ us))
 low_trees n [] us a b = b
 low_trees n (t ∷ ts) us a b = (a.0, low_trees n ts us a.1 b)
 
+-- of two objects joined
 pub low_members : (n : ℕ) (ms ns : List Member) → LowMembers n (members ms) → LowMembers n (members ns) → LowMembers n (members (ms ++ ns))
 low_members n [] ns a b = b
 low_members n (m ∷ ms) ns a b = (a.0, low_members n ms ns a.1 b)
 
+-- of each value of a list
 low_at : (n : ℕ) (ts : List Tree) (t : Tree) (us : List Tree) → LowTrees n (trees (ts ++ t ∷ us)) → Low n t
 low_at n [] t us h = h.0
 low_at n (x ∷ ts) t us h = low_at n ts t us h.1
 
+-- of each member of an object
 low_value : (n : ℕ) (ms : List Member) (m : Member) (ns : List Member) → LowMembers n (members (ms ++ m ∷ ns)) → Low n m.value
 low_value n [] m ns h = h.0
 low_value n (x ∷ ms) m ns h = low_value n ms m ns h.1
@@ -67,7 +74,8 @@ stands_low root n h (in_object {d} {at} {t} key key_at before after s) =
     let x = stands_low root n h s in
     go x.0 x.1 x.2
   where
-    go : (m : ℕ) → m + d ≡ n + 1 → Low m (object_of (before ++ record { key = key; key_place = key_at; value = t } ∷ after) at) → (m : ℕ) × (m + suc d ≡ n + 1) × Low m t
+    go : (m : ℕ) → m + d ≡ n + 1 → Low m (object_of (before ++ record { key = key; key_place = key_at; value = t } ∷ after) at) →
+        (m : ℕ) × (m + suc d ≡ n + 1) × Low m t
     go zero e l = absurd l
     go (suc m) e l = (m, omega (arith, e), low_value m before (record { key = key; key_place = key_at; value = t }) after l)
 
@@ -93,7 +101,8 @@ pub plain_low : (n : ℕ) (u : List ℕ) (at : Place) → Low n (plain_tree u at
 unfolding plain_kind
 plain_low n u at = go (bytes_eq u (codes "true")) (bytes_eq u (codes "false")) (bytes_eq u (codes "null")) (is_number u) (integer_value u)
   where
-    go : (a b c d : Bool) (o : Option ℤ) → LowKind n (cond a (boolean true) (cond b (boolean false) (cond c null (cond d (number_kind o u) (string u)))))
+    go : (a b c d : Bool) (o : Option ℤ) →
+        LowKind n (cond a (boolean true) (cond b (boolean false) (cond c null (cond d (number_kind o u) (string u)))))
     go true b c d o = tt
     go false true c d o = tt
     go false false true d o = tt
@@ -110,12 +119,14 @@ Held room (frame.in_list at ts ∷ outer) = LowTrees room (trees ts) × Held (su
 Held room (frame.in_object at ms ∷ outer) = LowMembers room (members ms) × Held (suc room) outer
 Held room (frame.in_member at ms k key_at ∷ outer) = LowMembers room (members ms) × Held (suc room) outer
 
+-- the levels that are open and those that fit are 64
 pub held_length : (room : ℕ) (stack : List Frame) → Held room stack → room + length stack ≡ 64
 held_length room [] h = omega (arith, h)
 held_length room (frame.in_list at ts ∷ outer) h = omega (arith, held_length (suc room) outer h.1)
 held_length room (frame.in_object at ms ∷ outer) h = omega (arith, held_length (suc room) outer h.1)
 held_length room (frame.in_member at ms k key_at ∷ outer) h = omega (arith, held_length (suc room) outer h.1)
 
+-- the tree that was found has 64 levels at most
 abbrev pub LowFound : Option Tree → Type 0
 LowFound None = Unit {0}
 LowFound (Some t) = Low 64 t

@@ -31,13 +31,17 @@ use Rattle.cg_docspec.proofs.Completion.Room.{Kept, Low, plain_low}
 use Rattle.cg_docspec.proofs.Left.{AfterValue, AwaitedThen, GapThen, LeftNow, PlainThen, QuotedLeft}
 
 module _ (stack : List Frame) (found : Option Tree) where
+  -- the gap goes on
   abbrev gone_on : Tree → Awaited → Place → List ℕ → Type 0
   gone_on T p at m = GapThen (AwaitedThen T stack found p) at m
 
+  -- in a gap
   close_gap : (p : Awaited) → FineAwaited stack found p → (at : Place) → Completing stack found (λ T m. gone_on T p at m)
   close_gap p f at = let x = close_awaited stack found p f at in (x.0, x.1, gap_none (AwaitedThen x.1 stack found p) at x.0 x.2, x.3)
 
-  close_quoted : (key : Bool) (q : ℕ) (u : List ℕ) (at0 : Place) (e : Escape) (at : Place) → FineQuoted key stack → FineEscape e → Completing stack None (λ T m. QuotedLeft T stack key q u at0 e at m)
+  -- in a quoted string
+  close_quoted : (key : Bool) (q : ℕ) (u : List ℕ) (at0 : Place) (e : Escape) (at : Place) → FineQuoted key stack → FineEscape e →
+      Completing stack None (λ T m. QuotedLeft T stack key q u at0 e at m)
   close_quoted key q u at0 escape.none at v f =
       let x = close_none stack key v q at0 u at in
       let m : List ℕ = backslash ∷ letter_n ∷ q ∷ tail stack key v q at0 key in
@@ -47,6 +51,7 @@ module _ (stack : List Frame) (found : Option Tree) where
   close_quoted key q u at0 (escape.high h) at v f = close_escape stack key v q at0 u (escape.high h) at f
   close_quoted key q u at0 (escape.high_backslash h) at v f = close_escape stack key v q at0 u (escape.high_backslash h) at f
 
+  -- in each state
   close_now : (n : Now) (at : Place) → FineNow stack found n → Completing stack found (λ T m. LeftNow T stack found n at m)
   close_now (now.gap p) at f = close_gap p f at
   close_now (now.gap_return p) at f = let x = close_gap p f (next_place at line_feed) in (line_feed ∷ x.0, x.1, (x.0, refl, x.2), x.3)
@@ -98,7 +103,8 @@ module _ (stack : List Frame) (found : Option Tree) where
   close_now (now.lines u ended k p at0) at f = let x = close_spot stack f u ended k p at0 at in (x.0, x.1, x.2, λ h. x.3 (unfound stack found h))
 
 -- each prefix that the machine reads is completed by some text, to a tree of 64 levels where they suffice so far
-pub completed : (s : List ℕ) (σ : State) → run origin start s ≡ Some σ → (more : List ℕ) × (T : Tree) × Document (s ++ more) T × (Kept σ.stack σ.found → Low 64 T)
+pub completed : (s : List ℕ) (σ : State) → run origin start s ≡ Some σ →
+    (more : List ℕ) × (T : Tree) × Document (s ++ more) T × (Kept σ.stack σ.found → Low 64 T)
 completed s σ e =
     let f = fine_run origin start σ s refl e in
     let x = close_now σ.stack σ.found σ.now (place_after origin s) f in

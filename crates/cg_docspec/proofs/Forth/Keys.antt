@@ -24,46 +24,61 @@ use Rattle.cg_docspec.proofs.Forth.Quotes.{quoted_goes, string_state}
 
 -- ---- keys
 
-key_first : (c : ℕ) → is_key c ≡ true → ((c == space) ≡ false) × ((c == tab) ≡ false) × ((c == line_feed) ≡ false) × ((c == carriage_return) ≡ false) × ((c == comma) ≡ false) × ((c == close_brace) ≡ false)
+-- the first character of a key is no blank, comma or brace
+key_first : (c : ℕ) → is_key c ≡ true →
+    ((c == space) ≡ false) × ((c == tab) ≡ false) × ((c == line_feed) ≡ false) × ((c == carriage_return) ≡ false) × ((c == comma) ≡ false) × ((c == close_brace) ≡ false)
 key_first c h = (grind (arith, nat_tests), grind (arith, nat_tests), grind (arith, nat_tests), grind (arith, nat_tests), grind (arith, nat_tests), grind (arith, nat_tests))
 
 module _ (object_at : Place) (ms : List Member) (o : List Frame) where
+  -- in an object, at an item
   abbrev members : Bool → State
   members b = gap_state (frame.in_object object_at ms ∷ o) None (awaited.item b)
 
-  begin_key : (at : Place) (b : Bool) (c : ℕ) → is_key c ≡ true → is_quote c ≡ false → (c == hash) ≡ false → (c == slash) ≡ false → step at (members b) c ≡ Some (key_state object_at ms o at (encode_utf8 c))
+  -- a key without quotes begins
+  begin_key : (at : Place) (b : Bool) (c : ℕ) → is_key c ≡ true → is_quote c ≡ false → (c == hash) ≡ false → (c == slash) ≡ false →
+      step at (members b) c ≡ Some (key_state object_at ms o at (encode_utf8 c))
   unfolding step in_gap begin_token begin_item
   begin_key at true c h q e35 e47 = let p = key_first c h in rw (h, p.0, p.1, p.2, p.3, e35, e47, p.4, p.5, q) refl
   begin_key at false c h q e35 e47 = let p = key_first c h in rw (h, p.0, p.1, p.2, p.3, e35, e47, p.5, q) refl
 
-  begin_quoted_key : (at : Place) (b : Bool) (c : ℕ) → is_quote c ≡ true → step at (members b) c ≡ Some (string_state (frame.in_object object_at ms ∷ o) true c at [] escape.none)
+  -- a quoted key begins
+  begin_quoted_key : (at : Place) (b : Bool) (c : ℕ) → is_quote c ≡ true →
+      step at (members b) c ≡ Some (string_state (frame.in_object object_at ms ∷ o) true c at [] escape.none)
   unfolding step in_gap begin_token begin_item
   begin_quoted_key at b c q = elim (bool_cases (c == double_quote)) as (λ _. step at (members b) c ≡ Some (string_state (frame.in_object object_at ms ∷ o) true c at [] escape.none)) [
     | inl e ↦ with_quote b c (same_character c double_quote e) refl
     | inr e ↦ with_single b c (same_character c single_quote (rw e at q))
   ]
     where
-      with_quote : (b : Bool) (c : ℕ) → c ≡ double_quote → c ≡ c → step at (members b) c ≡ Some (string_state (frame.in_object object_at ms ∷ o) true c at [] escape.none)
+      with_quote : (b : Bool) (c : ℕ) → c ≡ double_quote → c ≡ c →
+          step at (members b) c ≡ Some (string_state (frame.in_object object_at ms ∷ o) true c at [] escape.none)
       with_quote true c e f = rw e refl
       with_quote false c e f = rw e refl
 
-      with_single : (b : Bool) (c : ℕ) → c ≡ single_quote → step at (members b) c ≡ Some (string_state (frame.in_object object_at ms ∷ o) true c at [] escape.none)
+      with_single : (b : Bool) (c : ℕ) → c ≡ single_quote →
+          step at (members b) c ≡ Some (string_state (frame.in_object object_at ms ∷ o) true c at [] escape.none)
       with_single true c e = rw e refl
       with_single false c e = rw e refl
 
-  step_slashed_key : (at at1 : Place) (b : Bool) (d : ℕ) → (d == slash || d == star) ≡ false → step at1 (slash_state (frame.in_object object_at ms ∷ o) None (awaited.item b) at) d ≡ step at1 (key_state object_at ms o at (encode_utf8 slash)) d
+  -- behind a slash, a key goes on as behind its first character
+  step_slashed_key : (at at1 : Place) (b : Bool) (d : ℕ) → (d == slash || d == star) ≡ false →
+      step at1 (slash_state (frame.in_object object_at ms ∷ o) None (awaited.item b) at) d ≡ step at1 (key_state object_at ms o at (encode_utf8 slash)) d
   unfolding step in_slash begin_token begin_item
   step_slashed_key at at1 true d e = rw e refl
   step_slashed_key at at1 false d e = rw e refl
 
-  slashed_key : (at at1 : Place) (b : Bool) (s : List ℕ) → at_comment (slash ∷ s) ≡ false → Goes at1 (slash_state (frame.in_object object_at ms ∷ o) None (awaited.item b) at) s at1 (key_state object_at ms o at (encode_utf8 slash)) s
+  -- a key that begins with a slash
+  slashed_key : (at at1 : Place) (b : Bool) (s : List ℕ) → at_comment (slash ∷ s) ≡ false →
+      Goes at1 (slash_state (frame.in_object object_at ms ∷ o) None (awaited.item b) at) s at1 (key_state object_at ms o at (encode_utf8 slash)) s
   slashed_key at at1 b [] e t doc = unfinished at1 (key_state object_at ms o at (encode_utf8 slash)) t refl doc
   slashed_key at at1 b (d ∷ s) e t doc = same_steps at1 (slash_state (frame.in_object object_at ms ∷ o) None (awaited.item b) at) (key_state object_at ms o at (encode_utf8 slash)) d s (step_slashed_key at at1 b d (no_second d s e)) t doc
 
+  -- its colon comes next
   key_read : (at : Place) (k : List ℕ) → keyed (frame.in_object object_at ms ∷ o) k at ≡ Some (colon_state object_at ms o at k)
   unfolding keyed
   key_read at k = refl
 
+  -- a key
   pub key_goes : {at at' : Place} {s k r : List ℕ} (b : Bool) → Key at s k at' r → Goes at (members b) s at' (colon_state object_at ms o at k) r
   key_goes b (quoted_key {at} {at'} {c} {s} {u} {r} e l) t doc =
       let nq : (backslash == c) ≡ false = grind (arith, nat_tests) in

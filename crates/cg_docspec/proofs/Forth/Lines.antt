@@ -23,6 +23,7 @@ use Rattle.cg_docspec.proofs.Left.{pending}
 use Rattle.cg_docspec.proofs.LineTexts.{no_more, solid_more, solid_text, text_more, undented_quotes}
 
 module _ (stack : List Frame) (k : ℕ) (at0 : Place) where
+  -- in a multi-line string
   abbrev pub lines_state : List ℕ → Bool → Spot → State
   lines_state u ended p = reading stack (now.lines u ended k p at0)
 
@@ -35,6 +36,7 @@ module _ (stack : List Frame) (k : ℕ) (at0 : Place) where
   way spot.opening_return w = w
   way (spot.line_return n) w = w
 
+  -- the whole string
   abbrev pub string : List ℕ → Bool → Spot → List ℕ → List ℕ
   string u ended p w = u ++ encodes (without_last_feed (pending ended ++ way p w))
 
@@ -52,7 +54,9 @@ module _ (stack : List Frame) (k : ℕ) (at0 : Place) where
   count (spot.quotes n) = n
   count p = 0
 
-  quote_step : (at : Place) (u : List ℕ) (ended : Bool) (p : Spot) (c : ℕ) (s : List ℕ) → May p s → c ≡ single_quote → nat_lt (count p) 2 ≡ true → step at (lines_state u ended p) c ≡ Some (lines_state u ended (spot.quotes (count p + 1)))
+  -- one quote more
+  quote_step : (at : Place) (u : List ℕ) (ended : Bool) (p : Spot) (c : ℕ) (s : List ℕ) → May p s → c ≡ single_quote → nat_lt (count p) 2 ≡ true →
+      step at (lines_state u ended p) c ≡ Some (lines_state u ended (spot.quotes (count p + 1)))
   unfolding step in_lines inside_line
   quote_step at u ended spot.opening c s m e l = rw e refl
   quote_step at u ended (spot.indent n) c s m e l = rw e refl
@@ -61,12 +65,15 @@ module _ (stack : List Frame) (k : ℕ) (at0 : Place) where
   quote_step at u ended spot.opening_return c s m e l = absurd m
   quote_step at u ended (spot.line_return n) c s m e l = absurd m
 
-  last_step : (at : Place) (u : List ℕ) (ended : Bool) (c : ℕ) → c ≡ single_quote → step at (lines_state u ended (spot.quotes 2)) c ≡ delivered stack (string_of u at0)
+  -- the third quote ends the string
+  last_step : (at : Place) (u : List ℕ) (ended : Bool) (c : ℕ) → c ≡ single_quote →
+      step at (lines_state u ended (spot.quotes 2)) c ≡ delivered stack (string_of u at0)
   unfolding step in_lines inside_line
   last_step at u ended c e = rw e refl
 
   -- a line ends behind what is no opening
-  feed_step : (at : Place) (u : List ℕ) (ended : Bool) (p : Spot) (c : ℕ) (s : List ℕ) → May p s → (p ≡ spot.opening → ⊥) → c ≡ line_feed → step at (lines_state u ended p) c ≡ Some (lines_state (flushed u ended ++ quotes (count p)) true (spot.indent k))
+  feed_step : (at : Place) (u : List ℕ) (ended : Bool) (p : Spot) (c : ℕ) (s : List ℕ) → May p s → (p ≡ spot.opening → ⊥) → c ≡ line_feed →
+      step at (lines_state u ended p) c ≡ Some (lines_state (flushed u ended ++ quotes (count p)) true (spot.indent k))
   unfolding step in_lines inside_line
   feed_step at u ended spot.opening c s m o e = absurd (o refl)
   feed_step at u ended (spot.indent n) c s m o e = rw e refl
@@ -75,19 +82,27 @@ module _ (stack : List Frame) (k : ℕ) (at0 : Place) where
   feed_step at u ended spot.opening_return c s m o e = absurd m
   feed_step at u ended (spot.line_return n) c s m o e = absurd m
 
-  opening_feed : (at : Place) (u : List ℕ) (ended : Bool) (c : ℕ) → c ≡ line_feed → step at (lines_state u ended spot.opening) c ≡ Some (lines_state u ended (spot.indent k))
+  -- a line feed behind the opening
+  opening_feed : (at : Place) (u : List ℕ) (ended : Bool) (c : ℕ) → c ≡ line_feed →
+      step at (lines_state u ended spot.opening) c ≡ Some (lines_state u ended (spot.indent k))
   unfolding step in_lines
   opening_feed at u ended c e = rw e refl
 
-  opening_return : (at : Place) (u : List ℕ) (ended : Bool) (c : ℕ) → c ≡ carriage_return → step at (lines_state u ended spot.opening) c ≡ Some (lines_state u ended spot.opening_return)
+  -- a carriage return behind the opening
+  opening_return : (at : Place) (u : List ℕ) (ended : Bool) (c : ℕ) → c ≡ carriage_return →
+      step at (lines_state u ended spot.opening) c ≡ Some (lines_state u ended spot.opening_return)
   unfolding step in_lines
   opening_return at u ended c e = rw e refl
 
-  opening_return_feed : (at : Place) (u : List ℕ) (ended : Bool) (c : ℕ) → c ≡ line_feed → step at (lines_state u ended spot.opening_return) c ≡ Some (lines_state u ended (spot.indent k))
+  -- and its line feed
+  opening_return_feed : (at : Place) (u : List ℕ) (ended : Bool) (c : ℕ) → c ≡ line_feed →
+      step at (lines_state u ended spot.opening_return) c ≡ Some (lines_state u ended (spot.indent k))
   unfolding step in_lines
   opening_return_feed at u ended c e = rw e refl
 
-  return_step : (at : Place) (u : List ℕ) (ended : Bool) (p : Spot) (c : ℕ) (s : List ℕ) → May p s → (p ≡ spot.opening → ⊥) → c ≡ carriage_return → step at (lines_state u ended p) c ≡ Some (lines_state u ended (spot.line_return (count p)))
+  -- a carriage return behind what is no opening
+  return_step : (at : Place) (u : List ℕ) (ended : Bool) (p : Spot) (c : ℕ) (s : List ℕ) → May p s → (p ≡ spot.opening → ⊥) → c ≡ carriage_return →
+      step at (lines_state u ended p) c ≡ Some (lines_state u ended (spot.line_return (count p)))
   unfolding step in_lines inside_line
   return_step at u ended spot.opening c s m o e = absurd (o refl)
   return_step at u ended (spot.indent n) c s m o e = rw e refl
@@ -96,7 +111,9 @@ module _ (stack : List Frame) (k : ℕ) (at0 : Place) where
   return_step at u ended spot.opening_return c s m o e = absurd m
   return_step at u ended (spot.line_return n) c s m o e = absurd m
 
-  return_feed : (at : Place) (u : List ℕ) (ended : Bool) (n c : ℕ) → c ≡ line_feed → step at (lines_state u ended (spot.line_return n)) c ≡ Some (lines_state (flushed u ended ++ quotes n) true (spot.indent k))
+  -- and its line feed
+  return_feed : (at : Place) (u : List ℕ) (ended : Bool) (n c : ℕ) → c ≡ line_feed →
+      step at (lines_state u ended (spot.line_return n)) c ≡ Some (lines_state (flushed u ended ++ quotes n) true (spot.indent k))
   unfolding step in_lines
   return_feed at u ended n c e = rw e refl
 
@@ -106,12 +123,15 @@ module _ (stack : List Frame) (k : ℕ) (at0 : Place) where
   Drops (spot.indent n) c = is_space c && nat_lt 0 n
   Drops p c = false
 
+  -- the spot behind a space that is dropped
   abbrev dropped : Spot → Spot
   dropped spot.opening = spot.opening
   dropped (spot.indent n) = spot.indent (n - 1)
   dropped p = p
 
-  drop_step : (at : Place) (u : List ℕ) (ended : Bool) (p : Spot) (c : ℕ) → Drops p c ≡ true → step at (lines_state u ended p) c ≡ Some (lines_state u ended (dropped p))
+  -- a space or a tab is dropped
+  drop_step : (at : Place) (u : List ℕ) (ended : Bool) (p : Spot) (c : ℕ) → Drops p c ≡ true →
+      step at (lines_state u ended p) c ≡ Some (lines_state u ended (dropped p))
   unfolding step in_lines
   drop_step at u ended spot.opening c e = rw e refl
   drop_step at u ended (spot.indent n) c e = rw e refl
@@ -120,7 +140,10 @@ module _ (stack : List Frame) (k : ℕ) (at0 : Place) where
   drop_step at u ended spot.opening_return c e = never e
   drop_step at u ended (spot.line_return n) c e = never e
 
-  solid_step : (at : Place) (u : List ℕ) (ended : Bool) (p : Spot) (c : ℕ) (s : List ℕ) → May p s → Drops p c ≡ false → (c == single_quote) ≡ false → (c == line_feed) ≡ false → is_control c ≡ false → step at (lines_state u ended p) c ≡ Some (lines_state (flushed u ended ++ quotes (count p) ++ encode_utf8 c) false spot.inside)
+  -- any other character inside a line
+  solid_step : (at : Place) (u : List ℕ) (ended : Bool) (p : Spot) (c : ℕ) (s : List ℕ) → May p s → Drops p c ≡ false → (c == single_quote) ≡ false →
+      (c == line_feed) ≡ false → is_control c ≡ false →
+      step at (lines_state u ended p) c ≡ Some (lines_state (flushed u ended ++ quotes (count p) ++ encode_utf8 c) false spot.inside)
   unfolding step in_lines inside_line
   solid_step at u ended spot.opening c s m d e39 e10 ct = let e13 : (c == carriage_return) ≡ false = grind (arith, nat_tests) in rw (d, e39, e10, e13, ct) refl
   solid_step at u ended (spot.indent n) c s m d e39 e10 ct = let e13 : (c == carriage_return) ≡ false = grind (arith, nat_tests) in rw (d, e39, e10, e13, ct) refl
@@ -131,7 +154,9 @@ module _ (stack : List Frame) (k : ℕ) (at0 : Place) where
 
   -- ---- the string
 
-  fed : (u : List ℕ) (ended : Bool) (p : Spot) (w s : List ℕ) → May p s → (p ≡ spot.opening → ⊥) → string u ended p (line_feed ∷ w) ≡ string (flushed u ended ++ quotes (count p)) true (spot.indent k) w
+  -- the string behind a line end
+  fed : (u : List ℕ) (ended : Bool) (p : Spot) (w s : List ℕ) → May p s → (p ≡ spot.opening → ⊥) →
+      string u ended p (line_feed ∷ w) ≡ string (flushed u ended ++ quotes (count p)) true (spot.indent k) w
   fed u ended spot.opening w s m o = absurd (o refl)
   fed u ended (spot.indent n) w s m o = text_more u ended 0 line_feed (undented k k w)
   fed u ended spot.inside w s m o = text_more u ended 0 line_feed (undented k k w)
@@ -139,7 +164,9 @@ module _ (stack : List Frame) (k : ℕ) (at0 : Place) where
   fed u ended spot.opening_return w s m o = absurd m
   fed u ended (spot.line_return n) w s m o = absurd m
 
-  solid_way : (p : Spot) (c : ℕ) (w s : List ℕ) → May p s → Drops p c ≡ false → (c == line_feed) ≡ false → way p (c ∷ w) ≡ quotes (count p) ++ c ∷ undented k 0 w
+  -- such a character stays
+  solid_way : (p : Spot) (c : ℕ) (w s : List ℕ) → May p s → Drops p c ≡ false → (c == line_feed) ≡ false →
+      way p (c ∷ w) ≡ quotes (count p) ++ c ∷ undented k 0 w
   solid_way spot.opening c w s m d e = rw (d, e) refl
   solid_way (spot.indent n) c w s m d e = rw (d, e) refl
   solid_way spot.inside c w s m d e = solid_more k c w e
@@ -147,11 +174,14 @@ module _ (stack : List Frame) (k : ℕ) (at0 : Place) where
   solid_way spot.opening_return c w s m d e = absurd m
   solid_way (spot.line_return n) c w s m d e = absurd m
 
-  solid_string : (u : List ℕ) (ended : Bool) (p : Spot) (c : ℕ) (w s : List ℕ) → May p s → Drops p c ≡ false → (c == line_feed) ≡ false → string u ended p (c ∷ w) ≡ string (flushed u ended ++ quotes (count p) ++ encode_utf8 c) false spot.inside w
+  -- the string behind such a character
+  solid_string : (u : List ℕ) (ended : Bool) (p : Spot) (c : ℕ) (w s : List ℕ) → May p s → Drops p c ≡ false → (c == line_feed) ≡ false →
+      string u ended p (c ∷ w) ≡ string (flushed u ended ++ quotes (count p) ++ encode_utf8 c) false spot.inside w
   solid_string u ended p c w s m d e =
       ap (λ (x : List ℕ). u ++ encodes (without_last_feed (pending ended ++ x))) (solid_way p c w s m d e) ∙ text_more u ended (count p) c (undented k 0 w) ∙
       ap (λ (y : List ℕ). flushed u ended ++ quotes (count p) ++ y) (solid_text c (undented k 0 w) e) ∙ sym (append_assoc (flushed u ended ++ quotes (count p)) (encode_utf8 c) (encodes (without_last_feed (undented k 0 w))))
 
+  -- a space that is dropped is none of the string's
   drop_way : (p : Spot) (c : ℕ) (w : List ℕ) → Drops p c ≡ true → way p (c ∷ w) ≡ way (dropped p) w
   drop_way spot.opening c w e = rw e refl
   drop_way (spot.indent n) c w e = rw e refl
@@ -160,6 +190,7 @@ module _ (stack : List Frame) (k : ℕ) (at0 : Place) where
   drop_way spot.opening_return c w e = never e
   drop_way (spot.line_return n) c w e = never e
 
+  -- and changes nothing for quotes
   drop_may : (p : Spot) (c : ℕ) (s s1 : List ℕ) → Drops p c ≡ true → May p s → May (dropped p) s1
   drop_may spot.opening c s s1 e m = tt
   drop_may (spot.indent n) c s s1 e m = tt
@@ -174,7 +205,9 @@ module _ (stack : List Frame) (k : ℕ) (at0 : Place) where
     may : May (spot.quotes (count p + 1)) s
     text : string u ended p (c ∷ w) ≡ string u ended (spot.quotes (count p + 1)) w
 
-  quote : (u : List ℕ) (ended : Bool) (p : Spot) (c : ℕ) (s w : List ℕ) → May p (c ∷ s) → starts (single_quote ∷ single_quote ∷ single_quote ∷ []) (c ∷ s) ≡ false → c ≡ single_quote → Quote u ended p c s w
+  -- the string behind one quote more
+  quote : (u : List ℕ) (ended : Bool) (p : Spot) (c : ℕ) (s w : List ℕ) → May p (c ∷ s) →
+      starts (single_quote ∷ single_quote ∷ single_quote ∷ []) (c ∷ s) ≡ false → c ≡ single_quote → Quote u ended p c s w
   quote u ended spot.opening c s w m st e = record { few = refl; may = inl (refl, subst (λ (x : ℕ). starts (single_quote ∷ single_quote ∷ single_quote ∷ []) (x ∷ s) ≡ false) e st); text = rw e refl }
   quote u ended (spot.indent n) c s w m st e = record { few = refl; may = inl (refl, subst (λ (x : ℕ). starts (single_quote ∷ single_quote ∷ single_quote ∷ []) (x ∷ s) ≡ false) e st); text = rw e refl }
   quote u ended spot.inside c s w m st e = record { few = refl; may = inl (refl, subst (λ (x : ℕ). starts (single_quote ∷ single_quote ∷ single_quote ∷ []) (x ∷ s) ≡ false) e st); text = rw e refl }
@@ -184,6 +217,7 @@ module _ (stack : List Frame) (k : ℕ) (at0 : Place) where
   quote u ended spot.opening_return c s w m st e = absurd m
   quote u ended (spot.line_return n) c s w m st e = absurd m
 
+  -- at the opening, or not
   opening_or : (p : Spot) → (p ≡ spot.opening) ⊎ (p ≡ spot.opening → ⊥)
   opening_or spot.opening = inl refl
   opening_or spot.opening_return = inr (λ e. cc)
@@ -193,7 +227,8 @@ module _ (stack : List Frame) (k : ℕ) (at0 : Place) where
   opening_or (spot.line_return n) = inr (λ e. cc)
 
   -- at the closing quotes no quote stands before
-  none_before : (p : Spot) (c d e : ℕ) (s : List ℕ) → c ≡ single_quote → d ≡ single_quote → e ≡ single_quote → May p (c ∷ d ∷ e ∷ s) → (count p ≡ 0) × (way p [] ≡ [])
+  none_before : (p : Spot) (c d e : ℕ) (s : List ℕ) → c ≡ single_quote → d ≡ single_quote → e ≡ single_quote → May p (c ∷ d ∷ e ∷ s) →
+      (count p ≡ 0) × (way p [] ≡ [])
   none_before spot.opening c d e s f g h m = (refl, refl)
   none_before (spot.indent n) c d e s f g h m = (refl, refl)
   none_before spot.inside c d e s f g h m = (refl, refl)
@@ -206,11 +241,15 @@ module _ (stack : List Frame) (k : ℕ) (at0 : Place) where
   abbrev More : Place → List ℕ → List ℕ → Place → List ℕ → State → Type 0
   More at s w at' r end = (u : List ℕ) (ended : Bool) (p : Spot) → May p s → delivered stack (string_of (string u ended p w) at0) ≡ Some end → Goes at (lines_state u ended p) s at' end r
 
+  -- equal strings are closed alike
   out_as : (x y : List ℕ) (end : State) → x ≡ y → delivered stack (string_of x at0) ≡ Some end → delivered stack (string_of y at0) ≡ Some end
   out_as x y end e h = subst (λ (z : List ℕ). delivered stack (string_of z at0) ≡ Some end) e h
 
   module _ (w r : List ℕ) (at at' : Place) (end : State) (u : List ℕ) (ended : Bool) where
-    crlf_more : (c d : ℕ) (s : List ℕ) → More (next_place (next_place at c) d) s w at' r end → (p : Spot) → May p (c ∷ d ∷ s) → c ≡ carriage_return → d ≡ line_feed → delivered stack (string_of (string u ended p (line_feed ∷ w)) at0) ≡ Some end → (p ≡ spot.opening) ⊎ (p ≡ spot.opening → ⊥) → Goes at (lines_state u ended p) (c ∷ d ∷ s) at' end r
+    -- a carriage return with a line feed
+    crlf_more : (c d : ℕ) (s : List ℕ) → More (next_place (next_place at c) d) s w at' r end → (p : Spot) → May p (c ∷ d ∷ s) → c ≡ carriage_return →
+        d ≡ line_feed → delivered stack (string_of (string u ended p (line_feed ∷ w)) at0) ≡ Some end → (p ≡ spot.opening) ⊎ (p ≡ spot.opening → ⊥) →
+        Goes at (lines_state u ended p) (c ∷ d ∷ s) at' end r
     crlf_more c d s more p m f g out (inl o) t doc =
         let out2 : delivered stack (string_of (string u ended spot.opening (line_feed ∷ w)) at0) ≡ Some end = out_as (string u ended p (line_feed ∷ w)) (string u ended spot.opening (line_feed ∷ w)) end (ap (λ (x : Spot). string u ended x (line_feed ∷ w)) o) out in
         subst (λ (x : Spot). Finds at (lines_state u ended x) (c ∷ d ∷ s) t) (sym o)
@@ -223,7 +262,10 @@ module _ (stack : List Frame) (k : ℕ) (at0 : Place) where
         (goes_step (next_place at c) (lines_state u ended (spot.line_return (count p))) (lines_state u2 true (spot.indent k)) d s (return_feed (next_place at c) u ended (count p) d g) t
         (more u2 true (spot.indent k) tt (out_as (string u ended p (line_feed ∷ w)) (string u2 true (spot.indent k) w) end (fed u ended p w (c ∷ d ∷ s) m o) out) t doc))
 
-    feed_more : (c : ℕ) (s : List ℕ) → More (next_place at c) s w at' r end → (p : Spot) → May p (c ∷ s) → c ≡ line_feed → delivered stack (string_of (string u ended p (c ∷ w)) at0) ≡ Some end → (p ≡ spot.opening) ⊎ (p ≡ spot.opening → ⊥) → Goes at (lines_state u ended p) (c ∷ s) at' end r
+    -- a line feed
+    feed_more : (c : ℕ) (s : List ℕ) → More (next_place at c) s w at' r end → (p : Spot) → May p (c ∷ s) → c ≡ line_feed →
+        delivered stack (string_of (string u ended p (c ∷ w)) at0) ≡ Some end → (p ≡ spot.opening) ⊎ (p ≡ spot.opening → ⊥) →
+        Goes at (lines_state u ended p) (c ∷ s) at' end r
     feed_more c s more p m f out (inl o) t doc =
         let e : string u ended p (c ∷ w) ≡ string u ended spot.opening (line_feed ∷ w) = ap (λ (x : Spot). string u ended x (c ∷ w)) o ∙ ap (λ (x : ℕ). string u ended spot.opening (x ∷ w)) f in
         subst (λ (x : Spot). Finds at (lines_state u ended x) (c ∷ s) t) (sym o)
@@ -235,7 +277,10 @@ module _ (stack : List Frame) (k : ℕ) (at0 : Place) where
         goes_step at (lines_state u ended p) (lines_state u2 true (spot.indent k)) c s (feed_step at u ended p c (c ∷ s) m o f) t
         (more u2 true (spot.indent k) tt (out_as (string u ended p (c ∷ w)) (string u2 true (spot.indent k) w) end e out) t doc)
 
-    char_more : (c : ℕ) (s : List ℕ) → More (next_place at c) s w at' r end → (p : Spot) → May p (c ∷ s) → starts (single_quote ∷ single_quote ∷ single_quote ∷ []) (c ∷ s) ≡ false → (is_control c ≡ false) ⊎ (c ≡ line_feed) → delivered stack (string_of (string u ended p (c ∷ w)) at0) ≡ Some end → Goes at (lines_state u ended p) (c ∷ s) at' end r
+    -- any other character
+    char_more : (c : ℕ) (s : List ℕ) → More (next_place at c) s w at' r end → (p : Spot) → May p (c ∷ s) →
+        starts (single_quote ∷ single_quote ∷ single_quote ∷ []) (c ∷ s) ≡ false → (is_control c ≡ false) ⊎ (c ≡ line_feed) →
+        delivered stack (string_of (string u ended p (c ∷ w)) at0) ≡ Some end → Goes at (lines_state u ended p) (c ∷ s) at' end r
     char_more c s more p m st (inr f) out t doc = feed_more c s more p m f out (opening_or p) t doc
     char_more c s more p m st (inl ct) out t doc =
         elim (bool_cases (c == single_quote)) as (λ _. Finds at (lines_state u ended p) (c ∷ s) t) [
@@ -255,7 +300,9 @@ module _ (stack : List Frame) (k : ℕ) (at0 : Place) where
           ]
         ]
 
-  pub lines_goes : {at at' : Place} {s w r : List ℕ} (u : List ℕ) (ended : Bool) (p : Spot) (end : State) → Lines at s w at' r → May p s → delivered stack (string_of (string u ended p w) at0) ≡ Some end → Goes at (lines_state u ended p) s at' end r
+  -- a multi-line string
+  pub lines_goes : {at at' : Place} {s w r : List ℕ} (u : List ℕ) (ended : Bool) (p : Spot) (end : State) → Lines at s w at' r → May p s →
+      delivered stack (string_of (string u ended p w) at0) ≡ Some end → Goes at (lines_state u ended p) s at' end r
   lines_goes u ended p end (lines_end {at} {c} {d} {e} {s} f g h) m out t doc =
       let n = none_before p c d e s f g h m in
       let two : spot.quotes (count p + 1) ≡ spot.quotes 1 = ap (λ (x : ℕ). spot.quotes (x + 1)) n.0 in

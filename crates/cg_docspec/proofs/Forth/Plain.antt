@@ -28,6 +28,7 @@ use Rattle.cg_docspec.proofs.Left.{NoneTaken, are_spaces, is_taken}
 use Rattle.cg_docspec.proofs.Literals.{are_wordy, is_wordy, plain_string}
 use Rattle.cg_docspec.proofs.Spaces.{encodes_one, ender_follows, follow_spaces, space_blank, space_cases, spaces_append, trimmed_solid, trimmed_space}
 
+-- a line end may follow a literal
 line_follows : (c : ℕ) (s : List ℕ) → at_line_end (c ∷ s) ≡ true → may_follow (c ∷ s) ≡ true
 line_follows c s e =
     elim (bool_cases (is_space c)) as (λ _. may_follow (c ∷ s) ≡ true) [
@@ -38,6 +39,7 @@ line_follows c s e =
       | inr f ↦ rw (f, e) (or_true (ends_literal c || at_comment (c ∷ s)))
     ]
 
+-- so may the text's end
 end_follows : (s : List ℕ) → at_line_end s ≡ true → may_follow s ≡ true
 end_follows [] e = refl
 end_follows (c ∷ s) e = line_follows c s e
@@ -51,6 +53,7 @@ second d s e = go (d == slash) (d == star) refl refl
     go false true f g = rw (f, g) refl
     go false false f g = never (let n : at_comment (slash ∷ d ∷ s) ≡ false = rw (f, g) refl in sym n ∙ e)
 
+-- no slash or star follows a slash that begins no comment
 pub no_second : (d : ℕ) (s : List ℕ) → at_comment (slash ∷ d ∷ s) ≡ false → (d == slash || d == star) ≡ false
 no_second d s e = go (d == slash) (d == star) refl refl
   where
@@ -60,69 +63,93 @@ no_second d s e = go (d == slash) (d == star) refl refl
     go false false f g = rw (f, g) refl
 
 module _ (stack inner : List Frame) (at0 : Place) where
+  -- in a literal or an unquoted string
   abbrev pub plain_state : List ℕ → List ℕ → Bool → State
   plain_state u b h = reading stack (now.plain u b h at0)
 
+  -- behind it
   abbrev pub closed_state : State
   closed_state = gap_state inner None (awaited.item true)
 
+  -- behind its carriage return
   abbrev plain_return_state : List ℕ → State
   plain_return_state u = reading stack (now.plain_return u at0)
 
+  -- behind its slash
   abbrev plain_slash_state : List ℕ → List ℕ → State
   plain_slash_state u b = reading stack (now.plain_slash u b at0)
 
-  step_solid : (at : Place) (u b : List ℕ) (h : Bool) (c : ℕ) → (c == line_feed) ≡ false → (c == carriage_return) ≡ false → (ends_literal c && (h && is_literal u)) ≡ false → (c == slash && (h && is_literal u)) ≡ false → is_space c ≡ false → is_control c ≡ false →
+  -- a character of it that is neither a space nor a tab
+  step_solid : (at : Place) (u b : List ℕ) (h : Bool) (c : ℕ) → (c == line_feed) ≡ false → (c == carriage_return) ≡ false →
+      (ends_literal c && (h && is_literal u)) ≡ false → (c == slash && (h && is_literal u)) ≡ false → is_space c ≡ false → is_control c ≡ false →
       step at (plain_state u b h) c ≡ Some (plain_state (u ++ b ++ encode_utf8 c) [] (h && not (is_no_part c)))
   unfolding step in_plain
   step_solid at u b h c feed return el sl sp ct = rw (feed, return, el, sl, sp, ct) refl
 
-  step_space : (at : Place) (u b : List ℕ) (h : Bool) (c : ℕ) → is_space c ≡ true → step at (plain_state u b h) c ≡ Some (plain_state u (b ++ encode_utf8 c) h)
+  -- a space or a tab
+  step_space : (at : Place) (u b : List ℕ) (h : Bool) (c : ℕ) → is_space c ≡ true →
+      step at (plain_state u b h) c ≡ Some (plain_state u (b ++ encode_utf8 c) h)
   unfolding step in_plain
   step_space at u b h c e = elim (space_cases c e) as (λ _. step at (plain_state u b h) c ≡ Some (plain_state u (b ++ encode_utf8 c) h)) [ inl f ↦ rw f refl | inr f ↦ rw f refl ]
 
+  -- a line feed ends it
   step_line : (at : Place) (u b : List ℕ) (h : Bool) (c : ℕ) → c ≡ line_feed → step at (plain_state u b h) c ≡ delivered stack (plain_tree u at0)
   unfolding step in_plain
   step_line at u b h c e = rw e refl
 
+  -- a carriage return
   step_line_back : (at : Place) (u b : List ℕ) (h : Bool) (c : ℕ) → c ≡ carriage_return → step at (plain_state u b h) c ≡ Some (plain_return_state u)
   unfolding step in_plain
   step_line_back at u b h c e = rw e refl
 
+  -- and its line feed ends it
   step_line_feed : (at : Place) (u : List ℕ) (c : ℕ) → c ≡ line_feed → step at (plain_return_state u) c ≡ delivered stack (plain_tree u at0)
   unfolding step in_plain_return
   step_line_feed at u c e = rw e refl
 
-  step_ender : (at : Place) (u b : List ℕ) (c : ℕ) → (c == line_feed) ≡ false → (c == carriage_return) ≡ false → ends_literal c ≡ true → is_literal u ≡ true → step at (plain_state u b true) c ≡ then_gap at c (delivered stack (plain_tree u at0))
+  -- a literal ends before such a character
+  step_ender : (at : Place) (u b : List ℕ) (c : ℕ) → (c == line_feed) ≡ false → (c == carriage_return) ≡ false → ends_literal c ≡ true →
+      is_literal u ≡ true → step at (plain_state u b true) c ≡ then_gap at c (delivered stack (plain_tree u at0))
   unfolding step in_plain
   step_ender at u b c e10 e13 e l = rw (e10, e13, e, l) refl
 
-  step_words_slash : (at : Place) (u b : List ℕ) (h : Bool) (c : ℕ) → c ≡ slash → (h && is_literal u) ≡ true → step at (plain_state u b h) c ≡ Some (plain_slash_state u b)
+  -- a slash behind a literal
+  step_words_slash : (at : Place) (u b : List ℕ) (h : Bool) (c : ℕ) → c ≡ slash → (h && is_literal u) ≡ true →
+      step at (plain_state u b h) c ≡ Some (plain_slash_state u b)
   unfolding step in_plain
   step_words_slash at u b h c e l = rw (e, l) refl
 
-  step_comment : (at : Place) (u b : List ℕ) (d : ℕ) → (d == slash || d == star) ≡ true → step at (plain_slash_state u b) d ≡ then_comment d (delivered stack (plain_tree u at0))
+  -- and a comment
+  step_comment : (at : Place) (u b : List ℕ) (d : ℕ) → (d == slash || d == star) ≡ true →
+      step at (plain_slash_state u b) d ≡ then_comment d (delivered stack (plain_tree u at0))
   unfolding step in_plain_slash
   step_comment at u b d e = rw e refl
 
-  step_slash_on : (at : Place) (u b : List ℕ) (d : ℕ) → (d == slash || d == star) ≡ false → step at (plain_slash_state u b) d ≡ step at (plain_state (u ++ b ++ slash ∷ []) [] false) d
+  -- and no comment
+  step_slash_on : (at : Place) (u b : List ℕ) (d : ℕ) → (d == slash || d == star) ≡ false →
+      step at (plain_slash_state u b) d ≡ step at (plain_state (u ++ b ++ slash ∷ []) [] false) d
   unfolding step in_plain_slash
   step_slash_on at u b d e = rw e refl
 
-  step_gap_comment : (at at1 : Place) (d : ℕ) → (d == slash || d == star) ≡ true → step at (slash_state inner None (awaited.item true) at1) d ≡ Some (reading inner (begun_comment d (awaited.item true)))
+  -- the same comment in a gap
+  step_gap_comment : (at at1 : Place) (d : ℕ) → (d == slash || d == star) ≡ true →
+      step at (slash_state inner None (awaited.item true) at1) d ≡ Some (reading inner (begun_comment d (awaited.item true)))
   unfolding step in_slash
   step_gap_comment at at1 d e = rw e refl
 
+  -- what comes behind a value is a gap
   step_gap : (at : Place) (c : ℕ) → step at closed_state c ≡ in_gap at inner None (awaited.item true) c
   unfolding step
   step_gap at c = refl
 
   -- the value ends at the line's end
-  line_close : (at : Place) (u b : List ℕ) (h : Bool) (s : List ℕ) → at_line_end s ≡ true → delivered stack (plain_tree u at0) ≡ Some closed_state → Goes at (plain_state u b h) s at closed_state s
+  line_close : (at : Place) (u b : List ℕ) (h : Bool) (s : List ℕ) → at_line_end s ≡ true → delivered stack (plain_tree u at0) ≡ Some closed_state →
+      Goes at (plain_state u b h) s at closed_state s
   line_close at u b h [] e out t doc = unfinished at closed_state t refl doc
   line_close at u b h (c ∷ s) e out t doc = go s (c == line_feed) (c == carriage_return) refl refl e doc
     where
-      go : (s : List ℕ) (x y : Bool) → (c == line_feed) ≡ x → (c == carriage_return) ≡ y → at_line_end (c ∷ s) ≡ true → Finds at closed_state (c ∷ s) t → Finds at (plain_state u b h) (c ∷ s) t
+      go : (s : List ℕ) (x y : Bool) → (c == line_feed) ≡ x → (c == carriage_return) ≡ y → at_line_end (c ∷ s) ≡ true →
+          Finds at closed_state (c ∷ s) t → Finds at (plain_state u b h) (c ∷ s) t
       go s true y f g e doc = let k = same_character c line_feed f in same_steps at (plain_state u b h) closed_state c s (step_line at u b h c k ∙ out ∙ sym (step_blank inner None (awaited.item true) at c (rw k refl))) t doc
       go s false false f g e doc = never (let n : at_line_end (c ∷ s) ≡ false = rw (f, g) refl in sym n ∙ e)
       go [] false true f g e doc = never (let n : at_line_end (c ∷ []) ≡ false = rw (f, g) refl in sym n ∙ e)
@@ -133,7 +160,8 @@ module _ (stack inner : List Frame) (at0 : Place) where
           goes_step at (plain_state u b h) (plain_return_state u) c (d ∷ s) (step_line_back at u b h c k) t (goes_step (next_place at c) (plain_return_state u) closed_state d s (step_line_feed (next_place at c) u d d10 ∙ out) t off)
 
   -- a literal ends
-  literal_close : (u : List ℕ) → is_literal u ≡ true → delivered stack (plain_tree u at0) ≡ Some closed_state → (s : List ℕ) (at : Place) (b : List ℕ) → may_follow s ≡ true → Goes at (plain_state u b true) s at closed_state s
+  literal_close : (u : List ℕ) → is_literal u ≡ true → delivered stack (plain_tree u at0) ≡ Some closed_state →
+      (s : List ℕ) (at : Place) (b : List ℕ) → may_follow s ≡ true → Goes at (plain_state u b true) s at closed_state s
   literal_close u l out [] at b e t doc = unfinished at closed_state t refl doc
   literal_close u l out (c ∷ s) at b e t doc =
       elim (bool_cases (is_space c)) as (λ _. Finds at (plain_state u b true) (c ∷ s) t) [
@@ -143,7 +171,9 @@ module _ (stack inner : List Frame) (at0 : Place) where
         | inr sp ↦ go s (at_line_end (c ∷ s)) (ends_literal c) refl refl (let x : may_follow (c ∷ s) ≡ (ends_literal c || at_comment (c ∷ s) || at_line_end (c ∷ s)) = rw sp refl in sym x ∙ e) doc
       ]
     where
-      go : (s : List ℕ) (x y : Bool) → at_line_end (c ∷ s) ≡ x → ends_literal c ≡ y → (ends_literal c || at_comment (c ∷ s) || at_line_end (c ∷ s)) ≡ true → Finds at closed_state (c ∷ s) t → Finds at (plain_state u b true) (c ∷ s) t
+      go : (s : List ℕ) (x y : Bool) → at_line_end (c ∷ s) ≡ x → ends_literal c ≡ y →
+          (ends_literal c || at_comment (c ∷ s) || at_line_end (c ∷ s)) ≡ true → Finds at closed_state (c ∷ s) t →
+          Finds at (plain_state u b true) (c ∷ s) t
       go s true y f g e doc = line_close at u b true (c ∷ s) f out t doc
       go s false true f g e doc =
           let e10 : (c == line_feed) ≡ false = grind (arith, nat_tests) in
@@ -164,7 +194,8 @@ module _ (stack inner : List Frame) (at0 : Place) where
             | inr h ↦ let e35 : (c == hash) ≡ false = grind (arith, nat_tests) in never (let n : at_comment (c ∷ s) ≡ false = rw (e35, h) refl in sym n ∙ cm)
           ]
 
-          slashed : (s : List ℕ) → c ≡ slash → at_comment (slash ∷ s) ≡ true → Finds at closed_state (c ∷ s) t → Finds at (plain_state u b true) (c ∷ s) t
+          slashed : (s : List ℕ) → c ≡ slash → at_comment (slash ∷ s) ≡ true → Finds at closed_state (c ∷ s) t →
+              Finds at (plain_state u b true) (c ∷ s) t
           slashed [] c47 cm doc = never cm
           slashed (d ∷ s) c47 cm doc =
               let x = second d s cm in
@@ -174,7 +205,8 @@ module _ (stack inner : List Frame) (at0 : Place) where
               goes_step at (plain_state u b true) (plain_slash_state u b) c (d ∷ s) (step_words_slash at u b true c c47 l) t (goes_step here (plain_slash_state u b) into d s (step_comment here u b d x ∙ ap (then_comment d) out) t off)
 
   -- the characters of a literal
-  word_goes : (y x r : List ℕ) (at : Place) → are_wordy y ≡ true → Goes at (plain_state (encodes x) [] true) (y ++ r) (place_after at y) (plain_state (encodes (x ++ y)) [] true) r
+  word_goes : (y x r : List ℕ) (at : Place) → are_wordy y ≡ true →
+      Goes at (plain_state (encodes x) [] true) (y ++ r) (place_after at y) (plain_state (encodes (x ++ y)) [] true) r
   word_goes [] x r at e t doc = subst (λ (z : List ℕ). Finds at (plain_state (encodes z) [] true) r t) (append-nil x) doc
   word_goes (c ∷ y) x r at e t doc =
       let p = and_parts (is_wordy c) (are_wordy y) e in
@@ -192,12 +224,14 @@ module _ (stack inner : List Frame) (at0 : Place) where
       (word_goes y (x ++ c ∷ []) r (next_place at c) p.1 t (subst (λ (z : List ℕ). Finds (place_after (next_place at c) y) (plain_state (encodes z) [] true) r t) (sym (append_assoc x (c ∷ []) y)) doc))
 
   -- a slash that begins no comment is a character like any other
-  slash_on : (at : Place) (u b s : List ℕ) → at_comment (slash ∷ s) ≡ false → Goes at (plain_slash_state u b) s at (plain_state (u ++ b ++ slash ∷ []) [] false) s
+  slash_on : (at : Place) (u b s : List ℕ) → at_comment (slash ∷ s) ≡ false →
+      Goes at (plain_slash_state u b) s at (plain_state (u ++ b ++ slash ∷ []) [] false) s
   slash_on at u b [] e t doc = unfinished at (plain_state (u ++ b ++ slash ∷ []) [] false) t refl doc
   slash_on at u b (d ∷ s) e t doc = same_steps at (plain_slash_state u b) (plain_state (u ++ b ++ slash ∷ []) [] false) d s (step_slash_on at u b d (no_second d s e)) t doc
 
   -- a character that is neither a space nor a tab, where no literal is taken
-  solid_goes : (at : Place) (u b : List ℕ) (h : Bool) (c : ℕ) (s : List ℕ) → is_space c ≡ false → is_control c ≡ false → ((h && is_literal u) && may_follow (c ∷ s)) ≡ false →
+  solid_goes : (at : Place) (u b : List ℕ) (h : Bool) (c : ℕ) (s : List ℕ) → is_space c ≡ false → is_control c ≡ false →
+      ((h && is_literal u) && may_follow (c ∷ s)) ≡ false →
       Goes at (plain_state u b h) (c ∷ s) (next_place at c) (plain_state (u ++ b ++ encode_utf8 c) [] (h && not (is_no_part c))) s
   solid_goes at u b h c s sp ct n t doc =
       let feed : (c == line_feed) ≡ false = grind (arith, nat_tests) in
@@ -231,12 +265,14 @@ module _ (stack inner : List Frame) (at0 : Place) where
   unasked true x y e = e
   unasked false x y e = refl
 
+  -- the literal so far is not taken
   untaken : (uc bc s : List ℕ) → NoneTaken uc (bc ++ s) → are_spaces bc ≡ true → (is_literal (encodes uc) && may_follow s) ≡ false
   untaken uc bc s n sp =
       let x : is_taken (uc ++ []) (bc ++ s) ≡ false = n [] (bc ++ s) refl in
       let y : is_taken uc (bc ++ s) ≡ false = subst (λ (z : List ℕ). is_taken z (bc ++ s) ≡ false) (append-nil uc) x in
       subst (λ (z : Bool). (is_literal (encodes uc) && z) ≡ false) (follow_spaces bc s sp) y
 
+  -- at a line's end it is none
   untaken_end : (uc bc s : List ℕ) → NoneTaken uc (bc ++ s) → are_spaces bc ≡ true → at_line_end s ≡ true → is_literal (encodes uc) ≡ false
   untaken_end uc bc s n sp e = go (is_literal (encodes uc)) (let x = untaken uc bc s n sp in rw (end_follows s e) at x)
     where
@@ -245,7 +281,9 @@ module _ (stack inner : List Frame) (at0 : Place) where
       go false e = refl
 
   -- an unquoted string
-  pub unquoted_goes : {at at' : Place} {s w r : List ℕ} (uc bc : List ℕ) (h : Bool) → Line at s w at' r → are_spaces bc ≡ true → trimmed (uc ++ bc) ≡ uc → NoneTaken uc (bc ++ s) → delivered stack (string_of (encodes (trimmed (uc ++ (bc ++ w)))) at0) ≡ Some closed_state → Goes at (plain_state (encodes uc) (encodes bc) h) s at' closed_state r
+  pub unquoted_goes : {at at' : Place} {s w r : List ℕ} (uc bc : List ℕ) (h : Bool) → Line at s w at' r → are_spaces bc ≡ true →
+      trimmed (uc ++ bc) ≡ uc → NoneTaken uc (bc ++ s) → delivered stack (string_of (encodes (trimmed (uc ++ (bc ++ w)))) at0) ≡ Some closed_state →
+      Goes at (plain_state (encodes uc) (encodes bc) h) s at' closed_state r
   unquoted_goes uc bc h (line_end {at} {s} e) sp tr n out t doc =
       let l : is_literal (encodes uc) ≡ false = untaken_end uc bc s n sp e in
       let text : string (encodes (trimmed (uc ++ (bc ++ [])))) ≡ plain_kind (encodes uc) = ap (λ (x : List ℕ). string (encodes x)) (ap (λ (x : List ℕ). trimmed (uc ++ x)) (append-nil bc) ∙ tr) ∙ sym (plain_string (encodes uc) l) in
@@ -273,7 +311,9 @@ module _ (stack inner : List Frame) (at0 : Place) where
       ]
 
   -- a literal
-  pub literal_goes : (at : Place) (y x r : List ℕ) → are_wordy y ≡ true → is_taken (x ++ y) r ≡ true → delivered stack (plain_tree (encodes (x ++ y)) at0) ≡ Some closed_state → Goes at (plain_state (encodes x) [] true) (y ++ r) (place_after at y) closed_state r
+  pub literal_goes : (at : Place) (y x r : List ℕ) → are_wordy y ≡ true → is_taken (x ++ y) r ≡ true →
+      delivered stack (plain_tree (encodes (x ++ y)) at0) ≡ Some closed_state →
+      Goes at (plain_state (encodes x) [] true) (y ++ r) (place_after at y) closed_state r
   literal_goes at y x r so tk out t doc =
       let p = and_parts (is_literal (encodes (x ++ y))) (may_follow r) tk in
       word_goes y x r at so t (literal_close (encodes (x ++ y)) p.0 out r (place_after at y) [] p.1 t doc)

@@ -36,7 +36,9 @@ record Four (x : List ℕ) (w : ℕ) : Type 0 where
   hf : hex f ≡ Some df
   value : (((0 * 16 + da) * 16 + db) * 16 + de) * 16 + df ≡ w
 
-digit_of : (v c w : ℕ) (s : List ℕ) → hex_value (with_digit v (hex c)) s ≡ Some w → (d : ℕ) × (hex c ≡ Some d) × (hex_value (Some (v * 16 + d)) s ≡ Some w)
+-- a digit more
+digit_of : (v c w : ℕ) (s : List ℕ) → hex_value (with_digit v (hex c)) s ≡ Some w →
+    (d : ℕ) × (hex c ≡ Some d) × (hex_value (Some (v * 16 + d)) s ≡ Some w)
 digit_of v c w s = go (hex c) refl
   where
     no_digits : (s : List ℕ) → hex_value None s ≡ Some w → ⊥
@@ -47,6 +49,7 @@ digit_of v c w s = go (hex c) refl
     go None e f = absurd (no_digits s f)
     go (Some d) e f = (d, e, f)
 
+-- a unit has four digits
 four : (x : List ℕ) (w : ℕ) → IsUnit x w → Four x w
 four [] w u = absurd (omega (arith, u.0))
 four (a ∷ []) w u = absurd (omega (arith, u.0))
@@ -62,48 +65,67 @@ four (a ∷ b ∷ e ∷ f ∷ []) w u =
     record { a = a; b = b; e = e; f = f; da = p.0; db = q.0; de = r.0; df = t.0; is = refl; ha = p.1; hb = q.1; he = r.1; hf = t.1; value = cc }
 
 module _ (stack : List Frame) (key : Bool) (q : ℕ) (at0 : Place) where
+  -- in a quoted string
   abbrev pub string_state : List ℕ → Escape → State
   string_state u e = reading stack (now.quoted key q u at0 e)
 
-  step_as_is : (at : Place) (u : List ℕ) (c : ℕ) → (c == q) ≡ false → (c == backslash) ≡ false → is_control c ≡ false → step at (string_state u escape.none) c ≡ Some (string_state (u ++ encode_utf8 c) escape.none)
+  -- a character that stands for itself
+  step_as_is : (at : Place) (u : List ℕ) (c : ℕ) → (c == q) ≡ false → (c == backslash) ≡ false → is_control c ≡ false →
+      step at (string_state u escape.none) c ≡ Some (string_state (u ++ encode_utf8 c) escape.none)
   unfolding step in_quoted outside_escape
   step_as_is at u c e f g = rw (e, f, g) refl
 
   -- a backslash, which is no quote
-  step_escape : (at : Place) (u : List ℕ) (c : ℕ) → c ≡ backslash → (backslash == q) ≡ false → step at (string_state u escape.none) c ≡ Some (string_state u escape.backslash)
+  step_escape : (at : Place) (u : List ℕ) (c : ℕ) → c ≡ backslash → (backslash == q) ≡ false →
+      step at (string_state u escape.none) c ≡ Some (string_state u escape.backslash)
   unfolding step in_quoted outside_escape
   step_escape at u c e f = rw (e, f) refl
 
-  step_escaped : (at : Place) (u : List ℕ) (d v : ℕ) → escaped d ≡ Some v → step at (string_state u escape.backslash) d ≡ Some (string_state (u ++ encode_utf8 v) escape.none)
+  -- the character of an escape
+  step_escaped : (at : Place) (u : List ℕ) (d v : ℕ) → escaped d ≡ Some v →
+      step at (string_state u escape.backslash) d ≡ Some (string_state (u ++ encode_utf8 v) escape.none)
   unfolding step in_quoted behind_backslash
   step_escaped at u d v e = elim (bool_cases (d == small_u)) as (λ _. step at (string_state u escape.backslash) d ≡ Some (string_state (u ++ encode_utf8 v) escape.none)) [
     | inl f ↦ let g : escaped small_u ≡ Some v = subst (λ (x : ℕ). escaped x ≡ Some v) (same_character d small_u f) e in let h : None ≡ Some v = g in cc
     | inr f ↦ rw f (ap (λ (o : Option ℕ). escape_more stack key q u at0 o) e)
   ]
 
-  step_u : (at : Place) (u : List ℕ) (d : ℕ) → d ≡ small_u → step at (string_state u escape.backslash) d ≡ Some (string_state u (escape.unit None 0 0))
+  -- the u of a unit
+  step_u : (at : Place) (u : List ℕ) (d : ℕ) → d ≡ small_u →
+      step at (string_state u escape.backslash) d ≡ Some (string_state u (escape.unit None 0 0))
   unfolding step in_quoted behind_backslash
   step_u at u d e = rw e refl
 
-  step_digit : (at : Place) (u : List ℕ) (high : Option ℕ) (n v c d : ℕ) → hex c ≡ Some d → nat_lt n 4 ≡ true → nat_lt v 4096 ≡ true → may_stand (is_some high) (n + 1) (v * 16 + d) ≡ true → nat_lt (n + 1) 4 ≡ true → step at (string_state u (escape.unit high n v)) c ≡ Some (string_state u (escape.unit high (n + 1) (v * 16 + d)))
+  -- a digit of a unit
+  step_digit : (at : Place) (u : List ℕ) (high : Option ℕ) (n v c d : ℕ) → hex c ≡ Some d → nat_lt n 4 ≡ true → nat_lt v 4096 ≡ true →
+      may_stand (is_some high) (n + 1) (v * 16 + d) ≡ true → nat_lt (n + 1) 4 ≡ true →
+      step at (string_state u (escape.unit high n v)) c ≡ Some (string_state u (escape.unit high (n + 1) (v * 16 + d)))
   unfolding step in_quoted in_unit
   step_digit at u high n v c d e f g m k = rw (f, g) (ap (λ (o : Option ℕ). unit_with stack key q u at0 high n v o) e ∙ rw (m, k) refl)
 
-  step_last : (at : Place) (u : List ℕ) (high : Option ℕ) (v c d : ℕ) → hex c ≡ Some d → nat_lt v 4096 ≡ true → step at (string_state u (escape.unit high 3 v)) c ≡ unit_end stack key q u at0 high (v * 16 + d)
+  -- its last digit
+  step_last : (at : Place) (u : List ℕ) (high : Option ℕ) (v c d : ℕ) → hex c ≡ Some d → nat_lt v 4096 ≡ true →
+      step at (string_state u (escape.unit high 3 v)) c ≡ unit_end stack key q u at0 high (v * 16 + d)
   unfolding step in_quoted in_unit
   step_last at u high v c d e g = rw g (ap (λ (o : Option ℕ). unit_with stack key q u at0 high 3 v o) e)
 
-  ends_scalar : (u : List ℕ) (w : ℕ) → scalar w ≡ true → is_high w ≡ false → unit_end stack key q u at0 None w ≡ Some (string_state (u ++ encode_utf8 w) escape.none)
+  -- a unit that is a character
+  ends_scalar : (u : List ℕ) (w : ℕ) → scalar w ≡ true → is_high w ≡ false →
+      unit_end stack key q u at0 None w ≡ Some (string_state (u ++ encode_utf8 w) escape.none)
   ends_scalar u w e f = rw (f, e) refl
 
+  -- a high surrogate
   ends_high : (u : List ℕ) (w : ℕ) → is_high w ≡ true → unit_end stack key q u at0 None w ≡ Some (string_state u (escape.high w))
   ends_high u w e = rw e refl
 
-  ends_pair : (u : List ℕ) (h w : ℕ) → scalar (paired h w) ≡ true → unit_end stack key q u at0 (Some h) w ≡ Some (string_state (u ++ encode_utf8 (paired h w)) escape.none)
+  -- a low surrogate behind a high one
+  ends_pair : (u : List ℕ) (h w : ℕ) → scalar (paired h w) ≡ true →
+      unit_end stack key q u at0 (Some h) w ≡ Some (string_state (u ++ encode_utf8 (paired h w)) escape.none)
   ends_pair u h w e = rw e refl
 
   -- four digits
-  digits_goes : (high : Option ℕ) (u x : List ℕ) (w : ℕ) (at : Place) (s : List ℕ) (end : State) → (four : Four x w) → may_stand (is_some high) 1 (0 * 16 + four.da) ≡ true → may_stand (is_some high) 2 ((0 * 16 + four.da) * 16 + four.db) ≡ true →
+  digits_goes : (high : Option ℕ) (u x : List ℕ) (w : ℕ) (at : Place) (s : List ℕ) (end : State) → (four : Four x w) →
+      may_stand (is_some high) 1 (0 * 16 + four.da) ≡ true → may_stand (is_some high) 2 ((0 * 16 + four.da) * 16 + four.db) ≡ true →
       unit_end stack key q u at0 high w ≡ Some end → Goes at (string_state u (escape.unit high 0 0)) (x ++ s) (place_after at x) end s
   digits_goes high u x w at s end n m1 m2 e t doc =
       let ka = hex_small n.a n.da n.ha in
@@ -129,11 +151,15 @@ module _ (stack : List Frame) (key : Bool) (q : ℕ) (at0 : Place) where
       (goes_step at3 (string_state u (escape.unit high 3 v3)) end n.f s (step_last at3 u high v3 n.f n.df n.hf l3 ∙ ap (unit_end stack key q u at0 high) n.value ∙ e) t end_doc))) in
       subst (λ (y : List ℕ). Finds at (string_state u (escape.unit high 0 0)) (y ++ s) t) (sym n.is) r
 
-  step_high : (at : Place) (u : List ℕ) (h c : ℕ) → c ≡ backslash → step at (string_state u (escape.high h)) c ≡ Some (string_state u (escape.high_backslash h))
+  -- a backslash behind a high surrogate
+  step_high : (at : Place) (u : List ℕ) (h c : ℕ) → c ≡ backslash →
+      step at (string_state u (escape.high h)) c ≡ Some (string_state u (escape.high_backslash h))
   unfolding step in_quoted
   step_high at u h c e = rw e refl
 
-  step_high_u : (at : Place) (u : List ℕ) (h c : ℕ) → c ≡ small_u → step at (string_state u (escape.high_backslash h)) c ≡ Some (string_state u (escape.unit (Some h) 0 0))
+  -- and the u of the second unit
+  step_high_u : (at : Place) (u : List ℕ) (h c : ℕ) → c ≡ small_u →
+      step at (string_state u (escape.high_backslash h)) c ≡ Some (string_state u (escape.unit (Some h) 0 0))
   unfolding step in_quoted
   step_high_u at u h c e = rw e refl
 
@@ -141,7 +167,9 @@ module _ (stack : List Frame) (key : Bool) (q : ℕ) (at0 : Place) where
   abbrev pub Closing : List ℕ → List ℕ → State → Type 0
   Closing u r end = (at : Place) (c : ℕ) → (c == q) ≡ true → Goes at (string_state u escape.none) (c ∷ r) (next_place at c) end r
 
-  pub quoted_goes : {at at' : Place} {s v r : List ℕ} (u : List ℕ) (end : State) → (backslash == q) ≡ false → Quoted q at s v at' r → Closing (u ++ v) r end → Goes at (string_state u escape.none) s at' end r
+  -- a quoted string
+  pub quoted_goes : {at at' : Place} {s v r : List ℕ} (u : List ℕ) (end : State) → (backslash == q) ≡ false → Quoted q at s v at' r →
+      Closing (u ++ v) r end → Goes at (string_state u escape.none) s at' end r
   quoted_goes u end nq (closes {at} {c} {s} e) f t doc = subst (λ (y : List ℕ). Closing y s end) (append-nil u) f at c e t doc
   quoted_goes u end nq (as_is {at} {at'} {c} {s} {u = v} {r} e g h l) f t doc =
       goes_step at (string_state u escape.none) (string_state (u ++ encode_utf8 c) escape.none) c s (step_as_is at u c e g h) t
@@ -158,7 +186,8 @@ module _ (stack : List Frame) (key : Bool) (q : ℕ) (at0 : Place) where
       (digits_goes None u x w (next_place (next_place at c) d) s (string_state (u ++ encode_utf8 w) escape.none) n refl p.0 (ends_scalar u w sc p.1) t
       (quoted_goes (u ++ encode_utf8 w) end nq l (subst (λ (y : List ℕ). Closing y r end) (sym (append_assoc u (encode_utf8 w) v)) f) t doc)))
     where
-      alone : (a b e f w : ℕ) → e < 16 → f < 16 → ((((0 * 16 + a) * 16 + b) * 16 + e) * 16 + f ≡ w) → scalar w ≡ true → (may_stand false 2 ((0 * 16 + a) * 16 + b) ≡ true) × (is_high w ≡ false)
+      alone : (a b e f w : ℕ) → e < 16 → f < 16 → ((((0 * 16 + a) * 16 + b) * 16 + e) * 16 + f ≡ w) → scalar w ≡ true →
+          (may_stand false 2 ((0 * 16 + a) * 16 + b) ≡ true) × (is_high w ≡ false)
       alone a b e f w le lf v sc = (grind (arith, nat_tests), grind (arith, nat_tests))
   quoted_goes u end nq (pair {at} {at'} {c} {d} {e} {f} {v = h} {w} {s} {u = v} {r} x y ec ed iu hi ee ef iy low l) close t doc =
       let n = four x h iu in
@@ -176,10 +205,12 @@ module _ (stack : List Frame) (key : Bool) (q : ℕ) (at0 : Place) where
       (digits_goes (Some h) u y w (next_place (next_place at3 e) f) s (string_state (u ++ encode_utf8 (paired h w)) escape.none) m b.0 b.1 (ends_pair u h w (joined_scalar h w)) t
       (quoted_goes (u ++ encode_utf8 (paired h w)) end nq l (subst (λ (y : List ℕ). Closing y r end) (sym (append_assoc u (encode_utf8 (paired h w)) v)) close) t doc))))))
     where
-      front : (a b e f w : ℕ) → e < 16 → f < 16 → ((((0 * 16 + a) * 16 + b) * 16 + e) * 16 + f ≡ w) → is_high w ≡ true → may_stand false 2 ((0 * 16 + a) * 16 + b) ≡ true
+      front : (a b e f w : ℕ) → e < 16 → f < 16 → ((((0 * 16 + a) * 16 + b) * 16 + e) * 16 + f ≡ w) → is_high w ≡ true →
+          may_stand false 2 ((0 * 16 + a) * 16 + b) ≡ true
       front a b e f w le lf v hi = grind (arith, nat_tests)
 
-      behind : (a b e f w : ℕ) → b < 16 → e < 16 → f < 16 → ((((0 * 16 + a) * 16 + b) * 16 + e) * 16 + f ≡ w) → is_low w ≡ true → (may_stand true 1 (0 * 16 + a) ≡ true) × (may_stand true 2 ((0 * 16 + a) * 16 + b) ≡ true)
+      behind : (a b e f w : ℕ) → b < 16 → e < 16 → f < 16 → ((((0 * 16 + a) * 16 + b) * 16 + e) * 16 + f ≡ w) → is_low w ≡ true →
+          (may_stand true 1 (0 * 16 + a) ≡ true) × (may_stand true 2 ((0 * 16 + a) * 16 + b) ≡ true)
       behind a b e f w lb le lf v low = (grind (arith, nat_tests), grind (arith, nat_tests))
 
       joined_scalar : (h w : ℕ) → scalar (paired h w) ≡ true

@@ -25,6 +25,7 @@ begun_step here s (now.key key key_place) c = in_key here s.stack key key_place 
 begun_step here s (now.plain u blanks hope at) c = in_plain here s.stack u blanks hope at c
 begun_step here s n c = None
 
+-- the same, if the slash may begin one
 abbrev pub then_begun : Place → ℕ → Option State → Option State
 then_begun here c None = None
 then_begun here c (Some s) = begun_step here s s.now c
@@ -43,5 +44,6 @@ in_block stack found next after_star c =
     else if is_control c && not (c == line_feed) then None
     else Some (record { stack = stack; now = now.block next (c == star); found = found })
 
+-- behind a carriage return in such a comment
 unfoldable pub in_block_return : List Frame → Option Tree → Awaited → ℕ → Option State
 in_block_return stack found next c = if c == line_feed then Some (record { stack = stack; now = now.block next false; found = found }) else None

@@ -25,6 +25,7 @@ flushed u ended = if ended then u ++ line_feed ∷ [] else u
 abbrev pub quotes : ℕ → List ℕ
 quotes n = if n == 0 then [] else if n == 1 then single_quote ∷ [] else single_quote ∷ single_quote ∷ []
 
+-- the string goes on at this spot
 abbrev pub lines_on : List Frame → List ℕ → Bool → ℕ → Spot → Place → Option State
 lines_on stack u ended k p at = Some (reading stack (now.lines u ended k p at))
 
@@ -41,6 +42,7 @@ inside_line stack u ended k n at c =
     else if is_control c then None
     else lines_on stack (flushed u ended ++ quotes n ++ encode_utf8 c) false k spot.inside at
 
+-- in a multi-line string
 unfoldable pub in_lines : List Frame → List ℕ → Bool → ℕ → Place → Spot → ℕ → Option State
 in_lines stack u ended k at spot.opening c =
     if is_space c then lines_on stack u ended k spot.opening at

@@ -5,6 +5,7 @@ use Rattle.cg_docspec.specs.Machine.Awaited.{Awaited}
 use Rattle.cg_docspec.specs.Machine.Escape.{Escape}
 use Rattle.cg_docspec.specs.Machine.Spot.{Spot}
 
+-- what is being read, with what was read of it so far
 pub data Now : Type 0 where
   -- a gap, and the same behind a carriage return, and a comment up to the line's end
   gap : Awaited → Now

@@ -37,6 +37,7 @@ in_plain_return stack u at c = if c == line_feed then delivered stack (plain_tre
 abbrev pub begun_comment : ℕ → Awaited → Now
 begun_comment c next = if c == slash then now.comment next else now.block next false
 
+-- what may come next behind a gap
 abbrev pub awaited_in : Now → Awaited
 awaited_in (now.gap next) = next
 awaited_in n = awaited.end

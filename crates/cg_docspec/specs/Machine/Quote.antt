@@ -17,6 +17,7 @@ use Rattle.cg_docspec.specs.Machine.Closing.{delivered, keyed}
 abbrev pub quoted_more : List Frame → Bool → ℕ → List ℕ → Place → ℕ → Option State
 quoted_more stack key quote u at c = Some (reading stack (now.quoted key quote (u ++ encode_utf8 c) at escape.none))
 
+-- the string goes on in an escape
 abbrev pub quoted_escape : List Frame → Bool → ℕ → List ℕ → Place → Escape → Option State
 quoted_escape stack key quote u at e = Some (reading stack (now.quoted key quote u at e))
 
@@ -40,6 +41,7 @@ abbrev pub escape_more : List Frame → Bool → ℕ → List ℕ → Place → 
 escape_more stack key quote u at None = None
 escape_more stack key quote u at (Some c) = quoted_more stack key quote u at c
 
+-- behind a backslash
 unfoldable pub behind_backslash : List Frame → Bool → ℕ → List ℕ → Place → ℕ → Option State
 behind_backslash stack key quote u at c =
     if c == small_u then quoted_escape stack key quote u at (escape.unit None 0 0) else escape_more stack key quote u at (escaped c)
@@ -51,6 +53,7 @@ may_stand behind_high digits v =
     else if digits == 2 then cond behind_high (nat_le 220 v) (nat_lt v 220 || nat_lt 223 v)
     else true
 
+-- a character, if the number is one
 abbrev pub scalar_or_none : ℕ → Option ℕ
 scalar_or_none v = if scalar v then Some v else None
 
@@ -67,14 +70,17 @@ unit_digit stack key quote u at high digits v =
     else if nat_lt digits 4 then quoted_escape stack key quote u at (escape.unit high digits v)
     else unit_end stack key quote u at high v
 
+-- one digit more, if it is one
 abbrev pub unit_with : List Frame → Bool → ℕ → List ℕ → Place → Option ℕ → ℕ → ℕ → Option ℕ → Option State
 unit_with stack key quote u at high digits v None = None
 unit_with stack key quote u at high digits v (Some d) = unit_digit stack key quote u at high (digits + 1) (v * 16 + d)
 
+-- in the digits of a unit
 unfoldable pub in_unit : List Frame → Bool → ℕ → List ℕ → Place → Option ℕ → ℕ → ℕ → ℕ → Option State
 in_unit stack key quote u at high digits v c =
     if nat_lt digits 4 && nat_lt v 4096 then unit_with stack key quote u at high digits v (hex c) else None
 
+-- in a quoted string
 unfoldable pub in_quoted : List Frame → Bool → ℕ → List ℕ → Place → Escape → ℕ → Option State
 in_quoted stack key quote u at escape.none c = outside_escape stack key quote u at c
 in_quoted stack key quote u at escape.backslash c = behind_backslash stack key quote u at c

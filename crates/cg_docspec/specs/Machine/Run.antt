@@ -15,6 +15,7 @@ use Rattle.cg_docspec.specs.Machine.Comment.{in_comment, in_slash, in_block, in_
 use Rattle.cg_docspec.specs.Machine.Quote.{in_quoted}
 use Rattle.cg_docspec.specs.Machine.MultiLine.{in_two_quotes, in_lines}
 
+-- one character, by what is being read
 abbrev pub step_now : Place → List Frame → Option Tree → Now → ℕ → Option State
 step_now here stack found (now.gap next) c = in_gap here stack found next c
 step_now here stack found (now.gap_return next) c = in_gap_return stack found next c
@@ -44,11 +45,13 @@ abbrev pub found_at : Option Tree → Awaited → Option Tree
 found_at found awaited.end = found
 found_at found next = None
 
+-- the same by what is being read
 abbrev pub found_in : Option Tree → Now → Option Tree
 found_in found (now.gap next) = found_at found next
 found_in found (now.comment next) = found_at found next
 found_in found n = None
 
+-- the tree of a state in which the text may end
 abbrev pub whole : State → Option Tree
 whole s = found_in s.found s.now
 
@@ -61,13 +64,16 @@ abbrev pub ended : Place → Option Tree → Answer
 ended at None = no_document at
 ended at (Some t) = read t
 
+-- the answer behind a step: no document, an opener of depth 65, or the answer of the rest
 abbrev pub next_or_fault : Place → (State → Answer) → Option State → Answer
 next_or_fault at more None = no_document at
 next_or_fault at more (Some t) = if nat_lt 64 (length t.stack) then too_deep at else more t
 
+-- the answer from a place and a state on
 abbrev pub answer_from : Place → State → List ℕ → Answer
 answer_from at s [] = ended at (whole s)
 answer_from at s (c ∷ cs) = next_or_fault at (λ t. answer_from (next_place at c) t cs) (step at s c)
 
+-- the answer to a text
 abbrev pub answer : List ℕ → Answer
 answer text = answer_from origin start text

@@ -12,8 +12,10 @@ pub record State : Type 0 where
   pub now : Now
   pub found : Option Tree
 
+-- a state in which no tree was found yet
 abbrev pub reading : List Frame → Now → State
 reading stack now = record { stack = stack; now = now; found = None }
 
+-- the state before a text
 abbrev pub start : State
 start = reading [] (now.gap awaited.root)

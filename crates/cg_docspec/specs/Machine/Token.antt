@@ -16,6 +16,7 @@ use Rattle.cg_docspec.specs.Machine.Closing.{delivered, keyed}
 abbrev pub opened_object : Place → List Frame → State
 opened_object here stack = reading (in_object here [] ∷ stack) (now.gap (awaited.item false))
 
+-- a list opens
 abbrev pub opened_list : Place → List Frame → State
 opened_list here stack = reading (in_list here [] ∷ stack) (now.gap (awaited.item false))
 
@@ -65,6 +66,7 @@ abbrev pub gap_step : Place → State → Now → ℕ → Option State
 gap_step here s (now.gap next) c = in_gap here s.stack s.found next c
 gap_step here s n c = None
 
+-- the same, if there is a state
 abbrev pub then_gap : Place → ℕ → Option State → Option State
 then_gap here c None = None
 then_gap here c (Some s) = gap_step here s s.now c
