@@ -9,3 +9,4 @@ pub mod Back
 pub mod Forth
 pub mod Completion
 pub mod Answering
+pub mod Examples

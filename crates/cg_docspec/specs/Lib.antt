@@ -9,3 +9,4 @@ pub mod Document
 pub mod Depth
 pub mod SyntaxFault
 pub mod Machine
+pub mod Examples

@@ -14,6 +14,7 @@ ghost use Rattle.cg_docspec.specs.Place.{origin};
 ghost use Rattle.cg_docspec.specs.Tree.{Tree};
 ghost use Rattle.cg_docspec.specs.Document.{Document};
 ghost use Rattle.cg_docspec.specs.SyntaxFault.{Begins, Answer, IsAnswer};
+ghost use Rattle.cg_docspec.specs.Examples.{examples, AllRight};
 ghost use Rattle.cg_docspec.specs.Machine.State.{start};
 ghost use Rattle.cg_docspec.specs.Machine.Run.{run, Finds, answer};
 
@@ -40,4 +41,9 @@ pub fn the_machine_reads_documents()
 /// The machine takes exactly the prefixes that begin a document.
 pub fn the_machine_takes_what_begins_a_document()
     ensures { (p : List ℕ) → IsSome (run origin start p) ↔ Begins p }
+{}
+
+/// The examples of `specs/Examples` are right.
+pub fn the_examples_are_right()
+    ensures { AllRight examples }
 {}

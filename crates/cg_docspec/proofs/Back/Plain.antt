@@ -122,12 +122,12 @@ module _ (T : Tree) where
         go uc bc r (subst (λ (b : Bool). (b && may_follow (c ∷ s)) ≡ false) (asked uc bc here r) untaken) (h uc2 [] r2)
       where
         step : (uc bc v : List ℕ) → uc ++ bc ++ c ∷ [] ++ v ≡ uc ++ (bc ++ c ∷ v)
-        step uc bc v = rw append_assoc (rw append_assoc refl)
+        step uc bc v = append_assoc (uc ++ bc) (c ∷ []) v ∙ append_assoc uc bc (c ∷ v)
 
         faded : (uc bc x : List ℕ) → PlainRead u blanks hope uc bc at0 here → (hope ≡ false) ⊎ (is_wordy c ≡ false) →
             is_literal (encodes (uc ++ bc ++ c ∷ [] ++ x)) ≡ false
         faded uc bc x r (inl e) = rw (step uc bc x) (r.hopeless e (bc ++ c ∷ x))
-        faded uc bc x r (inr e) = rw append_assoc (none_in_literal (uc ++ bc) x c e)
+        faded uc bc x r (inr e) = subst (λ (y : List ℕ). is_literal (encodes y) ≡ false) (sym (append_assoc (uc ++ bc) (c ∷ []) x)) (none_in_literal (uc ++ bc) x c e)
 
         go : (uc bc : List ℕ) → PlainRead u blanks hope uc bc at0 here → (is_literal u && may_follow (c ∷ s)) ≡ false →
             TakenThen T stack at0 (uc ++ bc ++ c ∷ []) s ⊎ UnquotedThen T stack at0 (uc ++ bc ++ c ∷ []) [] (next_place here c) s →
