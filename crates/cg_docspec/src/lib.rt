@@ -6,7 +6,7 @@
 //! depth 65, the first such opener, or the end of the longest prefix that begins a document. `specs/Machine` is an inner
 //! definition, one character at a time with a stack, for readers to be proved against. The laws below tie it to the
 //! grammar both ways. Not said here: that a reader finds memory, and what the tree means.
-//! Source of the format: Hjson (hjson.github.io), with the exact rules in `docs/`.
+//! Source of the format: Hjson (hjson.github.io), with the exact rules as `specs/` states them.
 #![tactic(auto)]
 
 ghost use Rattle.std.specs.Prelude.{◌≡◌, ◌↔◌, ℕ, List, IsSome};
