@@ -2,3 +2,5 @@ pub mod NamesAsText
 pub mod Alls
 pub mod FormBack
 pub mod PlainFaces
+pub mod Endings
+pub mod Once

@@ -15,7 +15,7 @@ abbrev pub line : List ℕ → List ℕ
 line text = text ++ 10 ∷ []
 
 -- the usage text, of all commands
-abbrev pub usage : List ℕ
+unfoldable pub usage : List ℕ
 usage =
     line (codes "usage: regtool (-r|-D|-j) -t DIR FILE") ++ (line (codes "usage: tlgen -t FILE -o DIR")
     ++ (line (codes "usage: topgen -t FILE -o DIR -w N") ++ (line (codes "usage: session -t FILE -o DIR -w N")

@@ -6,7 +6,10 @@ mod ending;
 mod face;
 mod form;
 mod perform;
+mod plan;
+mod stop;
 mod words;
 
 pub use due::{Change, Due};
 pub use ending::Ending;
+pub use stop::Stop;

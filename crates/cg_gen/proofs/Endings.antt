@@ -1,0 +1,42 @@
+-- How a run ends where its parts end so.
+use Rattle.std.proofs.Common.{◌≡◌, ◌⊎◌, ℕ, ◌<◌, List, [], ◌∷◌, Option, Some, None, refl, sym, ap, ◌∙◌, subst, inl, inr, arith, eqb, cond}
+use Rattle.cg_base.specs.Outside.{Files, Rose, OnlyAt, written, put, TookPrefix}
+use Rattle.cg_gen.specs.declared.due.Change.{Change}
+use Rattle.cg_gen.specs.declared.due.Due.{Due}
+use Rattle.cg_gen.specs.declared.ending.Ending.{Ending}
+use Rattle.cg_gen.specs.declared.ending.Ending.TheVariants.{Built, Refused, NoCommand, ReadFailed, WriteFailed, Memory}
+use Rattle.cg_gen.specs.Due.{IsDue}
+use Rattle.cg_gen.specs.Run.{World, world, Done, Performs, Silent, ReadFails, ChangeFailsOf, LineFailsOf, ChangeUnfoundOf, LineUnfoundOf, WriteFails, PerformUnfound, MemoryUnfound, Unchanged, LineBegun, LineWhole, Ends, PerformEnds, Calm, Completes, code_of}
+
+-- before and after a read, all but the count of reads is the same
+module _ (words : List (List ℕ)) (due : Due) (files : Option Files) (reads reads' changes : ℕ) (out : Option (List ℕ)) (out_faults : ℕ) (err : Option (List ℕ)) (err_faults : ℕ) (after : World) where
+  abbrev before : World
+  before = world files reads changes out out_faults err err_faults
+
+  abbrev between : World
+  between = world files reads' changes out out_faults err err_faults
+
+  done : Done due between after → Done due before after
+  done d = record { files = d.files; printed = record { out = d.printed.out; err = d.printed.err } }
+
+  silent : Silent between after → Silent before after
+  silent s = record { out = s.out; err = s.err }
+
+  begun : LineBegun due between after → LineBegun due before after
+  begun b = record { out = b.out; err = b.err }
+
+  failed : ChangeFailsOf due between after ⊎ LineFailsOf due between after → ChangeFailsOf due before after ⊎ LineFailsOf due before after
+  failed (inl c) = inl (record { rose = c.rose; stopped = c.stopped; silent = silent c.silent })
+  failed (inr l) = inr (record { rose = l.rose; files = l.files; begun = begun l.begun })
+
+  unfound : ChangeUnfoundOf due between after ⊎ LineUnfoundOf due between after → ChangeUnfoundOf due before after ⊎ LineUnfoundOf due before after
+  unfound (inl c) = inl (record { stopped = c.stopped; silent = silent c.silent })
+  unfound (inr l) = inr (record { files = l.files; begun = begun l.begun })
+
+  pub performed : (e : Ending) → IsDue words files due → PerformEnds e due between after → Ends e words before after
+  performed Built is p = record { due = due; is_due = is; is_status = p.0; is_done = done p.1 }
+  performed Refused is p = record { due = due; is_due = is; is_status = p.0; is_done = done p.1 }
+  performed NoCommand is p = record { due = due; is_due = is; is_status = p.0; is_done = done p.1 }
+  performed ReadFailed is p = absurd p
+  performed WriteFailed is p = record { due = due; is_due = is; failed = failed p }
+  performed Memory is p = inr (record { due = due; is_due = is; unfound = unfound p })
