@@ -4,3 +4,4 @@ pub mod FormBack
 pub mod PlainFaces
 pub mod Endings
 pub mod Once
+pub mod Meanings

@@ -4,3 +4,4 @@ pub mod FormReading
 pub mod Build
 pub mod Due
 pub mod Run
+pub mod Meaning
