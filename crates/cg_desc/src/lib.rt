@@ -11,6 +11,7 @@
 
 mod block;
 mod fault;
+mod fault_line;
 mod place;
 
 pub use block::{
@@ -18,5 +19,6 @@ pub use block::{
     IoDesc, IoDir, Item, LaidBlock, LaidFace, LaidRow, MultiDesc, RegDesc, SwAccess, WindowDesc,
     Written,
 };
-pub use fault::{DescFault, Fault};
+pub use fault::{DescFault, Fault, faults_are_ordered};
+pub use fault_line::fault_text;
 pub use place::At;

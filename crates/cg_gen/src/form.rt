@@ -19,7 +19,7 @@ pub struct Form {
     pub registers: List<Text>,
 }
 
-fn is_blank(byte: u8) -> bool
+pub fn is_blank(byte: u8) -> bool
     ensures { result ≡ is_blank byte }
 {
     byte == b' ' || byte == b'\t' || byte == b'\n' || byte == b'\r'

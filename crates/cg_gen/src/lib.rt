@@ -4,6 +4,7 @@
 mod due;
 mod ending;
 mod face;
+mod faults;
 mod form;
 mod perform;
 mod plan;
