@@ -1,0 +1,4 @@
+pub mod BitLists
+pub mod Parts
+pub mod Targets
+pub mod Hits

@@ -83,7 +83,7 @@ abbrev pub slice : List ℕ → ℕ → ℕ → ℕ → Expression
 slice n width msb lsb = cond (eqb lsb 0 && eqb (suc msb) width) (net n) (cut n msb lsb)
 
 -- One term for each set bit of `items` below `bits`, the highest first; `at` is the first word that is left.
-abbrev pub window_terms : ℕ → ℕ → ℕ → Expressions
+unfoldable pub window_terms : ℕ → ℕ → ℕ → Expressions
 window_terms zero items at = none
 window_terms (suc b) items at =
     cond (leb (2 ^ b) items)
