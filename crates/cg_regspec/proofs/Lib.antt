@@ -5,3 +5,5 @@ pub mod Hits
 pub mod Wires
 pub mod Words
 pub mod Rows
+pub mod Gates
+pub mod Items
