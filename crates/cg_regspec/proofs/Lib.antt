@@ -7,3 +7,5 @@ pub mod Words
 pub mod Rows
 pub mod Gates
 pub mod Items
+pub mod AllRows
+pub mod Answer

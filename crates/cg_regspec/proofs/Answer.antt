@@ -1,0 +1,105 @@
+-- The answer: the error and the data that are read.
+use Rattle.std.proofs.Common.{◌≡◌, ℕ, zero, suc, ◌+◌, ◌-◌, ◌≤◌, ◌<◌, ◌^◌, eqb, Bool, true, false, not, cond, ◌&&◌, ◌||◌, List, [], ◌∷◌, ◌++◌, refl, ap, sym, ◌∙◌, arith, Option, Some, None}
+use Rattle.std.proofs.lemmas.Bool.{eqb-true, eqb-false, ne_eqb, eq-eqb}
+use Rattle.cg_svspec.specs.Bits.{Bits, bits, any_bit, ones}
+use Rattle.cg_svspec.specs.Tree.{Expression, net, Expressions, none, more}
+use Rattle.cg_svspec.specs.Value.{Values, eval, eval_parts, AllHold}
+use Rattle.cg_desc.specs.Target.{Target, register, word, error}
+use Rattle.cg_desc.specs.BlockStep.{Access, AccessKind, idle, read, write, is_read, is_write, Fields, Hardware, allows, allows_at, item_at, is_accepted, is_error, is_at, item_word, word_at}
+use Rattle.cg_desc.specs.declared.block.Item.{Item}
+use Rattle.cg_desc.specs.declared.block.LaidRow.{LaidRow}
+use Rattle.cg_desc.specs.declared.block.LaidFace.{LaidFace}
+use Rattle.cg_regspec.specs.NetNames.{hit, wbad, rbad, rd, hit_any, wbad_any, rbad_any, reg_error, reg_rdata}
+use Rattle.cg_regspec.specs.RegisterModule.{highest_first, last_rd, answer_entries, all_ones}
+use Rattle.cg_regspec.proofs.BitLists.{any_bit-append, any_bit-one, bits-ones}
+use Rattle.cg_regspec.proofs.Wires.{CarryAccess}
+use Rattle.cg_regspec.proofs.Rows.{RowHolds}
+use Rattle.cg_regspec.proofs.AllRows.{RowsHold}
+
+-- ---- the item that the target is at
+
+abbrev pub target_item : Target → List LaidRow → Option Item
+target_item (register j) rows = item_at rows j
+target_item (word j index) rows = item_at rows j
+target_item error rows = None
+
+abbrev test_at : (Item → Bool) → Option Item → Bool
+test_at test None = false
+test_at test (Some item) = test item
+
+pub accepted_at : (face : LaidFace) (target : Target) (a : Access) → is_accepted face target a ≡ allows_at (target_item target face.rows) a.kind a.strobes
+accepted_at face (register j) a = refl
+accepted_at face (word j index) a = refl
+accepted_at face error a = refl
+
+word_there : (face : LaidFace) (target : Target) (fields : Fields) (hardware : Hardware) → item_word fields hardware (target_item target face.rows) ≡ word_at face fields hardware target
+word_there face (register j) fields hardware = refl
+word_there face (word j index) fields hardware = refl
+word_there face error fields hardware = refl
+
+-- ---- an or over all rows
+
+-- the test holds of the item of some row that is meant
+abbrev some_row : (Item → Bool) → (ℕ → Bool) → ℕ → List LaidRow → Bool
+some_row test at i [] = false
+some_row test at i (row ∷ rows) = (at i && test row.item) || some_row test at (i + 1) rows
+
+-- the rows' nets of this name hold it
+abbrev NetsTest : Values → (ℕ → List ℕ) → (Item → Bool) → (ℕ → Bool) → ℕ → List LaidRow → Type 0
+NetsTest v name test at i [] = Unit {0}
+NetsTest v name test at i (row ∷ rows) = (v (name i) ≡ (at i && test row.item) ∷ []) × NetsTest v name test at (i + 1) rows
+
+or_turn : (x y z : Bool) → (y || (z || x)) ≡ ((x || y) || z)
+or_turn true true z = refl
+or_turn true false true = refl
+or_turn true false false = refl
+or_turn false true z = refl
+or_turn false false true = refl
+or_turn false false false = refl
+
+or_false : (b : Bool) → (b || false) ≡ b
+or_false true = refl
+or_false false = refl
+
+highest_is : (v : Values) (name : ℕ → List ℕ) (test : Item → Bool) (at : ℕ → Bool) (i : ℕ) (below : Expressions) (rows : List LaidRow) → NetsTest v name test at i rows
+    → any_bit (eval_parts v (highest_first name i below rows)) ≡ (some_row test at i rows || any_bit (eval_parts v below))
+highest_is v name test at i below [] nets = refl
+highest_is v name test at i below (row ∷ rows) nets =
+    highest_is v name test at (i + 1) (more (net (name i)) below) rows nets.1
+    ∙ rw (any_bit-append, nets.0, any_bit-one) (or_turn (at i && test row.item) (some_row test at (i + 1) rows) (any_bit (eval_parts v below)))
+
+none_meant : (test : Item → Bool) (at : ℕ → Bool) (i : ℕ) (rows : List LaidRow) → ((k : ℕ) → i ≤ k → at k ≡ false) → some_row test at i rows ≡ false
+none_meant test at i [] clear = refl
+none_meant test at i (row ∷ rows) clear = rw (clear i (omega arith)) (none_meant test at (i + 1) rows (λ k above. clear k (omega arith)))
+
+-- the row of number j is meant, among those from number i on
+one_meant_by : (test : Item → Bool) (j i : ℕ) (row : LaidRow) (rows : List LaidRow) → i ≤ j → (b : Bool) → eqb j i ≡ b
+    → (i + 1 ≤ j → some_row test (eqb j) (i + 1) rows ≡ test_at test (item_at rows (j - (i + 1))))
+    → ((b && test row.item) || some_row test (eqb j) (i + 1) rows) ≡ test_at test (item_at (row ∷ rows) (j - i))
+one_meant_by test j i row rows above true is later =
+    let same : j ≡ i = eqb-true j i is in
+    let zero : eqb (j - i) 0 ≡ true = eq-eqb (j - i) 0 (omega arith) in
+    rw (none_meant test (eqb j) (i + 1) rows (λ k over. ne_eqb j k (λ e. omega arith)), zero) (or_false (test row.item))
+one_meant_by test j i row rows above false is later =
+    let past : i + 1 ≤ j = grind (arith, eqb-false j i is) in
+    let some : eqb (j - i) 0 ≡ false = ne_eqb (j - i) 0 (λ e. omega arith) in
+    let back : j - i - 1 ≡ j - (i + 1) = omega arith in
+    rw (some, back) (later past)
+
+one_meant : (test : Item → Bool) (j i : ℕ) (rows : List LaidRow) → i ≤ j → some_row test (eqb j) i rows ≡ test_at test (item_at rows (j - i))
+one_meant test j i [] above = refl
+one_meant test j i (row ∷ rows) above = one_meant_by test j i row rows above (eqb j i) refl (λ past. one_meant test j (i + 1) rows past)
+
+target_meant : (test : Item → Bool) (target : Target) (rows : List LaidRow) → some_row test (is_at target) 0 rows ≡ test_at test (target_item target rows)
+target_meant test (register j) rows = one_meant test j 0 rows (omega arith) ∙ ap (λ k. test_at test (item_at rows k)) (less j) where
+  less : (k : ℕ) → k - 0 ≡ k
+  less k = omega arith
+target_meant test (word j index) rows = one_meant test j 0 rows (omega arith) ∙ ap (λ k. test_at test (item_at rows k)) (less j) where
+  less : (k : ℕ) → k - 0 ≡ k
+  less k = omega arith
+target_meant test error rows = none_meant test (λ k. false) 0 rows (λ k above. refl)
+
+-- the or of the rows' nets is the test of the target's item
+any_row : (v : Values) (name : ℕ → List ℕ) (test : Item → Bool) (target : Target) (rows : List LaidRow) → NetsTest v name test (is_at target) 0 rows
+    → any_bit (eval_parts v (highest_first name 0 none rows)) ≡ test_at test (target_item target rows)
+any_row v name test target rows nets = highest_is v name test (is_at target) 0 none rows nets ∙ (or_false (some_row test (is_at target) 0 rows) ∙ target_meant test target rows)
