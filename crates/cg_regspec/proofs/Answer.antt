@@ -103,3 +103,118 @@ target_meant test error rows = none_meant test (λ k. false) 0 rows (λ k above.
 any_row : (v : Values) (name : ℕ → List ℕ) (test : Item → Bool) (target : Target) (rows : List LaidRow) → NetsTest v name test (is_at target) 0 rows
     → any_bit (eval_parts v (highest_first name 0 none rows)) ≡ test_at test (target_item target rows)
 any_row v name test target rows nets = highest_is v name test (is_at target) 0 none rows nets ∙ (or_false (some_row test (is_at target) 0 rows) ∙ target_meant test target rows)
+
+-- ---- the chain of reads
+
+abbrev Shown : Type 0
+Shown = Item → Bits
+
+-- what the last row reads, where x is read before row i
+abbrev read_through : Shown → (ℕ → Bool) → ℕ → List LaidRow → Bits → Bits
+read_through shown at i [] x = x
+read_through shown at i (row ∷ rows) x = read_through shown at (i + 1) rows (cond (at i) (shown row.item) x)
+
+abbrev shown_or : Shown → Bits → Option Item → Bits
+shown_or shown x None = x
+shown_or shown x (Some item) = shown item
+
+last_is : (v : Values) (face : LaidFace) (target : Target) (a : Access) (fields : Fields) (hardware : Hardware) (i : ℕ) (before : Expression) (rows : List LaidRow)
+    → RowsHold v face target a fields hardware i before rows
+    → eval v (last_rd i before rows) ≡ read_through (λ item. item_word fields hardware (Some item)) (is_at target) i rows (eval v before)
+last_is v face target a fields hardware i before [] has = refl
+last_is v face target a fields hardware i before (row ∷ rows) has =
+    last_is v face target a fields hardware (i + 1) (net (rd i)) rows has.1
+    ∙ ap (read_through (λ item. item_word fields hardware (Some item)) (is_at target) (i + 1) rows) has.0.shows
+
+none_read : (shown : Shown) (at : ℕ → Bool) (i : ℕ) (rows : List LaidRow) (x : Bits) → ((k : ℕ) → i ≤ k → at k ≡ false) → read_through shown at i rows x ≡ x
+none_read shown at i [] x clear = refl
+none_read shown at i (row ∷ rows) x clear = rw (clear i (omega arith)) (none_read shown at (i + 1) rows x (λ k above. clear k (omega arith)))
+
+one_read_by : (shown : Shown) (j i : ℕ) (row : LaidRow) (rows : List LaidRow) (x : Bits) → i ≤ j → (b : Bool) → eqb j i ≡ b
+    → (i + 1 ≤ j → read_through shown (eqb j) (i + 1) rows x ≡ shown_or shown x (item_at rows (j - (i + 1))))
+    → read_through shown (eqb j) (i + 1) rows (cond b (shown row.item) x) ≡ shown_or shown x (item_at (row ∷ rows) (j - i))
+one_read_by shown j i row rows x above true is later =
+    let same : j ≡ i = eqb-true j i is in
+    let zero : eqb (j - i) 0 ≡ true = eq-eqb (j - i) 0 (omega arith) in
+    rw zero (none_read shown (eqb j) (i + 1) rows (shown row.item) (λ k over. ne_eqb j k (λ e. omega arith)))
+one_read_by shown j i row rows x above false is later =
+    let past : i + 1 ≤ j = grind (arith, eqb-false j i is) in
+    let some : eqb (j - i) 0 ≡ false = ne_eqb (j - i) 0 (λ e. omega arith) in
+    let back : j - i - 1 ≡ j - (i + 1) = omega arith in
+    rw (some, back) (later past)
+
+one_read : (shown : Shown) (j i : ℕ) (rows : List LaidRow) (x : Bits) → i ≤ j → read_through shown (eqb j) i rows x ≡ shown_or shown x (item_at rows (j - i))
+one_read shown j i [] x above = refl
+one_read shown j i (row ∷ rows) x above = one_read_by shown j i row rows x above (eqb j i) refl (λ past. one_read shown j (i + 1) rows x past)
+
+target_read : (shown : Shown) (target : Target) (rows : List LaidRow) (x : Bits) → read_through shown (is_at target) 0 rows x ≡ shown_or shown x (target_item target rows)
+target_read shown (register j) rows x = one_read shown j 0 rows x (omega arith) ∙ ap (λ k. shown_or shown x (item_at rows k)) (less j) where
+  less : (k : ℕ) → k - 0 ≡ k
+  less k = omega arith
+target_read shown (word j index) rows x = one_read shown j 0 rows x (omega arith) ∙ ap (λ k. shown_or shown x (item_at rows k)) (less j) where
+  less : (k : ℕ) → k - 0 ≡ k
+  less k = omega arith
+target_read shown error rows x = none_read shown (λ k. false) 0 rows x (λ k above. refl)
+
+word_of_item : (fields : Fields) (hardware : Hardware) (o : Option Item) → shown_or (λ item. item_word fields hardware (Some item)) (ones 32) o ≡ item_word fields hardware o
+word_of_item fields hardware None = refl
+word_of_item fields hardware (Some item) = refl
+
+-- ---- the error and the data
+
+hits_test : (v : Values) (face : LaidFace) (target : Target) (a : Access) (fields : Fields) (hardware : Hardware) (i : ℕ) (before : Expression) (rows : List LaidRow)
+    → RowsHold v face target a fields hardware i before rows → NetsTest v hit (λ item. true) (is_at target) i rows
+hits_test v face target a fields hardware i before [] has = tt
+hits_test v face target a fields hardware i before (row ∷ rows) has =
+    (has.0.hits ∙ ap (λ b. b ∷ []) (and_true (is_at target i)), hits_test v face target a fields hardware (i + 1) (net (rd i)) rows has.1) where
+  and_true : (b : Bool) → b ≡ (b && true)
+  and_true true = refl
+  and_true false = refl
+
+writes_test : (v : Values) (face : LaidFace) (target : Target) (a : Access) (fields : Fields) (hardware : Hardware) (i : ℕ) (before : Expression) (rows : List LaidRow)
+    → RowsHold v face target a fields hardware i before rows → NetsTest v wbad (λ item. not (allows item write a.strobes)) (is_at target) i rows
+writes_test v face target a fields hardware i before [] has = tt
+writes_test v face target a fields hardware i before (row ∷ rows) has =
+    (has.0.write_refusal, writes_test v face target a fields hardware (i + 1) (net (rd i)) rows has.1)
+
+reads_test : (v : Values) (face : LaidFace) (target : Target) (a : Access) (fields : Fields) (hardware : Hardware) (i : ℕ) (before : Expression) (rows : List LaidRow)
+    → RowsHold v face target a fields hardware i before rows → NetsTest v rbad (λ item. not (allows item read a.strobes)) (is_at target) i rows
+reads_test v face target a fields hardware i before [] has = tt
+reads_test v face target a fields hardware i before (row ∷ rows) has =
+    (has.0.read_refusal, reads_test v face target a fields hardware (i + 1) (net (rd i)) rows has.1)
+
+error_of : (kind : AccessKind) (o : Option Item) (strobes : Bits)
+    → ((is_write kind && (not (test_at (λ item. true) o) || test_at (λ item. not (allows item write strobes)) o))
+    || (is_read kind && (not (test_at (λ item. true) o) || test_at (λ item. not (allows item read strobes)) o)))
+    ≡ ((is_write kind || is_read kind) && not (allows_at o kind strobes))
+error_of idle o strobes = refl
+error_of write None strobes = refl
+error_of write (Some item) strobes = or_false (not (allows item write strobes))
+error_of read None strobes = refl
+error_of read (Some item) strobes = refl
+
+-- the answer of the module
+pub record Answers (v : Values) (face : LaidFace) (target : Target) (a : Access) (fields : Fields) (hardware : Hardware) : Type 0 where
+  pub faults : v reg_error ≡ is_error face target a ∷ []
+  pub shows : v reg_rdata ≡ cond (is_error face target a) (ones 32) (word_at face fields hardware target)
+
+pub answers : (v state next : Values) (face : LaidFace) (target : Target) (a : Access) (fields : Fields) (hardware : Hardware) → CarryAccess v a
+    → RowsHold v face target a fields hardware 0 all_ones face.rows → AllHold v state next (answer_entries face.rows) → Answers v face target a fields hardware
+answers v state next face target a fields hardware carry has holds =
+    let o = target_item target face.rows in
+    let hits : v hit_any ≡ test_at (λ item. true) o ∷ [] =
+    holds.0 ∙ ap (λ b. b ∷ []) (any_row v hit (λ item. true) target face.rows (hits_test v face target a fields hardware 0 all_ones face.rows has)) in
+    let bad_writes : v wbad_any ≡ test_at (λ item. not (allows item write a.strobes)) o ∷ [] =
+    holds.1.0 ∙ ap (λ b. b ∷ []) (any_row v wbad (λ item. not (allows item write a.strobes)) target face.rows (writes_test v face target a fields hardware 0 all_ones face.rows has)) in
+    let bad_reads : v rbad_any ≡ test_at (λ item. not (allows item read a.strobes)) o ∷ [] =
+    holds.1.1.0 ∙ ap (λ b. b ∷ []) (any_row v rbad (λ item. not (allows item read a.strobes)) target face.rows (reads_test v face target a fields hardware 0 all_ones face.rows has)) in
+    let fault : v reg_error ≡ is_error face target a ∷ [] =
+    holds.1.1.1.0 ∙ (rw (carry.we, carry.re, hits, bad_writes, bad_reads) refl ∙ ap (λ b. b ∷ []) (error_of a.kind o a.strobes ∙ rw (accepted_at face target a) refl)) in
+    let last : eval v (last_rd 0 all_ones face.rows) ≡ word_at face fields hardware target =
+    last_is v face target a fields hardware 0 all_ones face.rows has
+    ∙ (target_read (λ item. item_word fields hardware (Some item)) target face.rows (eval v all_ones)
+    ∙ (ap (λ x. shown_or (λ item. item_word fields hardware (Some item)) x o) (bits-ones 32) ∙ (word_of_item fields hardware o ∙ word_there face target fields hardware))) in
+    record {
+      faults = fault;
+      shows = holds.1.1.1.1.0 ∙ rw (fault, last, bits-ones 32) refl;
+    }
