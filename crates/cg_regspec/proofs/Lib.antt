@@ -9,3 +9,5 @@ pub mod Gates
 pub mod Items
 pub mod AllRows
 pub mod Answer
+pub mod Fields
+pub mod Steps
