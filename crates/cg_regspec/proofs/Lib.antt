@@ -11,3 +11,5 @@ pub mod AllRows
 pub mod Answer
 pub mod Fields
 pub mod Steps
+pub mod Resets
+pub mod Means

@@ -108,3 +108,38 @@ no_error : (w rd accepted : Bool) → (rd && accepted) ≡ true → ((w || rd) &
 no_error w rd true e = and-false (w || rd)
 no_error w true false e = cc
 no_error w false false e = cc
+
+-- from the groups of the entries
+step_of_groups : (inputs state v next : Values) (face : LaidFace) (a : Access) → IsLaid face → CarryAccess v a → RowsWires v state next inputs face.rows → Groups v state next face
+    → BlockStep face (target_at face a.address) a (fields_in state) (hardware_in inputs) (outcome_in v next)
+step_of_groups inputs state v next face a laid carry wires parts =
+    let target = target_at face a.address in
+    let has = rows_hold v state next inputs face a carry wires laid.rows parts.rows in
+    let says = answers v state next face target a (fields_in state) (hardware_in inputs) carry has parts.answer in
+    record {
+      response = rw says.faults refl;
+      data_of_error = where_true (is_error face target a) _ (λ e. says.shows ∙ rw e refl);
+      data_of_read = where_true (is_read a.kind && is_accepted face target a) _ (λ e. says.shows ∙ rw (no_error (is_write a.kind) (is_read a.kind) (is_accepted face target a) e) refl);
+      each = rows_step v state next inputs face target a 0 all_ones face.rows carry has wires parts.fields parts.windows;
+    }
+
+flops_fit : (state : Values) (face : LaidFace)
+    → AllOf (StateFitsIn state) (rows_states face.rows ++ (rows_entries face.rows 0 all_ones face.rows ++ (answer_entries face.rows ++ (rows_fields 0 face.rows ++ (rows_windows 0 face.rows ++ rows_flops face.rows)))))
+    → AllOf (StateFitsIn state) (rows_flops face.rows)
+flops_fit state face fit =
+    all_back (StateFitsIn state) (rows_windows 0 face.rows) _
+    (all_back (StateFitsIn state) (rows_fields 0 face.rows) _
+    (all_back (StateFitsIn state) (answer_entries face.rows) _
+    (all_back (StateFitsIn state) (rows_entries face.rows 0 all_ones face.rows) _ (all_back (StateFitsIn state) (rows_states face.rows) _ fit))))
+
+-- each valuation of the register module is the block's step at what the address is
+pub module_steps : (name : List ℕ) (face : LaidFace) → IsLaid face → (inputs state v next : Values) (a : Access) → HasWidths (register_module name face) inputs state → Carries inputs a
+    → Valuation (register_module name face) inputs state v next → BlockStep face (target_at face a.address) a (fields_in state) (hardware_in inputs) (outcome_in v next)
+unfolding register_module
+module_steps name face laid inputs state v next a widths carries valuation =
+    let parts = groups v state next face valuation.entries_hold in
+    let carry = carry_access v inputs a carries (all_front (InputHolds v inputs) access_ports (rows_ports face.rows) valuation.inputs_hold)
+        (all_front (InputFits inputs) access_ports (rows_ports face.rows) widths.inputs_fit) in
+    let wires = rows_wires v state next inputs face.rows parts.flops (flops_fit state face widths.states_fit)
+        (all_back (InputHolds v inputs) access_ports (rows_ports face.rows) valuation.inputs_hold) (all_back (InputFits inputs) access_ports (rows_ports face.rows) widths.inputs_fit) in
+    step_of_groups inputs state v next face a laid carry wires parts
