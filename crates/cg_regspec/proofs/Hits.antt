@@ -1,20 +1,21 @@
 -- The wire `hit_i` of a row is 1 just where the row holds the address.
-use Rattle.std.proofs.Common.{◌≡◌, ℕ, zero, suc, ◌+◌, ◌*◌, ◌-◌, ◌/◌, ◌%◌, ◌<◌, ◌≤◌, ◌^◌, eqb, leb, ltb, Bool, true, false, cond, ◌&&◌, ◌||◌, List, [], ◌∷◌, ◌++◌, take, drop, refl, ap, sym, subst, ◌∙◌, arith, pow-suc, pow-add, ◌⊎◌, inl, inr}
+use Rattle.std.proofs.Common.{◌≡◌, ℕ, zero, suc, ◌+◌, ◌*◌, ◌-◌, ◌/◌, ◌%◌, ◌<◌, ◌≤◌, ◌^◌, eqb, leb, ltb, Bool, true, false, cond, ◌&&◌, ◌||◌, [], ◌∷◌, take, drop, refl, ap, sym, subst, ◌∙◌, arith, pow-suc, pow-add, ◌⊎◌, inl, inr}
 use Rattle.std.proofs.lemmas.Bool.Decides.{nat_tests}
 use Rattle.std.proofs.lemmas.Bool.{eqb-true, eq-eqb, leb-true, leb-false, lt-leb, cases_lt}
 use Rattle.std.proofs.Math.Nat.{mul_comm, mul_assoc, div-eq_of_eq-mul_right, div-eq_of_lt-le, div-add-mod, div-div-eq-div-mul}
+use Rattle.std.specs.Cmp.{both_ways}
+use Rattle.std.proofs.Math.Bool.{or_comm}
 use Rattle.std.proofs.Math.Pow.{pow-lt}
-use Rattle.std.proofs.lemmas.Nat.{shr_below}
-use Rattle.cg_svspec.specs.Bits.{Bits, bits, any_bit, same_bits}
-use Rattle.cg_svspec.specs.Tree.{Expression, net, lit, cut, equal, Expressions, none, more}
+use Rattle.std.proofs.lemmas.Nat.{shr_below, pow_pos}
+use Rattle.cg_svspec.specs.Bits.{bits, any_bit, same_bits}
+use Rattle.cg_svspec.specs.Tree.{lit, cut, equal, more}
 use Rattle.cg_svspec.specs.Value.{Values, eval, eval_parts}
-use Rattle.cg_desc.specs.Target.{aligned, holds_address}
-use Rattle.cg_desc.specs.Laid.{RowFits, WindowFits}
+use Rattle.cg_desc.specs.Target.{holds_address}
+use Rattle.cg_desc.specs.Laid.{WindowFits}
 use Rattle.cg_desc.specs.declared.block.LaidRow.{LaidRow}
 use Rattle.cg_desc.specs.declared.block.RegDesc.{RegDesc}
 use Rattle.cg_desc.specs.declared.block.WindowDesc.{WindowDesc}
-use Rattle.cg_desc.specs.declared.block.Item.{Item}
-use Rattle.cg_desc.specs.declared.block.Item.TheVariants.{Reg, Window, SkipTo, Reserved}
+use Rattle.cg_desc.specs.declared.block.Item.TheVariants.{Reg, Window}
 use Rattle.cg_regspec.specs.NetNames.{reg_addr}
 use Rattle.cg_regspec.specs.RegisterModule.{window_terms, hit_of}
 use Rattle.cg_regspec.proofs.BitLists.{any_bit-append, any_bit-one, same_bits-bits, take_whole, length-bits, drop-bits}
@@ -23,18 +24,15 @@ use Rattle.cg_regspec.proofs.BitLists.{any_bit-append, any_bit-one, same_bits-bi
 abbrev within : ℕ → ℕ → ℕ → Bool
 within first items word = leb first word && ltb word (first + items)
 
-both_ways : (a b : Bool) → (a ≡ true → b ≡ true) → (b ≡ true → a ≡ true) → a ≡ b
-both_ways true true f g = refl
-both_ways true false f g = sym (f refl)
-both_ways false true f g = g refl
-both_ways false false f g = refl
-
+-- from the two bounds
 within_from : (first word items : ℕ) → first ≤ word → word < first + items → within first items word ≡ true
 within_from first word items low up = grind (arith, nat_tests)
 
+-- and back to them
 within_gives : (first word items : ℕ) → within first items word ≡ true → (first ≤ word) × (word < first + items)
 within_gives first word items e = (grind (arith, nat_tests), grind (arith, nat_tests))
 
+-- no word is among none
 within_none : (first word : ℕ) → within first 0 word ≡ false
 within_none first word = grind (arith, nat_tests)
 
@@ -57,16 +55,15 @@ block_holds p word k some = both_ways _ _
     let up : word < (k + 1) * p = omega (arith, inside.1) in
     eq-eqb _ _ (div-eq_of_lt-le p low up))
 
+-- a bound by an equal power
 below_by : (m n x : ℕ) → m ≡ n → x < 2 ^ n → x < 2 ^ m
 below_by m n x e h = rw e h
 
-pow_pos : (b : ℕ) → 0 < 2 ^ b
-pow_pos zero = omega arith
-pow_pos (suc b) = omega (arith, pow_pos b, pow-suc 2 b)
-
+-- a multiple of 2^(b+1) is one of 2^b
 half_block : (b k : ℕ) → 2 ^ suc b * k ≡ 2 ^ b * (2 * k)
 half_block b k = ap (λ z. z * k) (pow-suc 2 b) ∙ mul_assoc (2 ^ b) 2 k
 
+-- the next multiple
 next_block : (p m : ℕ) → p * (m + 1) ≡ p * m + p
 next_block p m = omega arith
 
@@ -84,12 +81,6 @@ term_is v address b k is small few low =
     rw (is, high, width, back, deep, take_whole (30 - b) (bits (30 - b) (address / 4 / 2 ^ b)) (length-bits (30 - b) (address / 4 / 2 ^ b)), same_bits-bits (30 - b) (address / 4 / 2 ^ b) k cut here)
     (block_holds (2 ^ b) (address / 4) k some)
 
-or_swap : (x y : Bool) → (x || y) ≡ (y || x)
-or_swap true true = refl
-or_swap true false = refl
-or_swap false true = refl
-or_swap false false = refl
-
 -- the highest term, with what the terms below it tell
 with_term : (v : Values) (address : ℕ) → v reg_addr ≡ bits 32 address → address < 2 ^ 32 → (b items first k : ℕ) → b ≤ 30 → 2 ^ b ≤ items → first ≡ 2 ^ b * k → first + items < 2 ^ 30
     → any_bit (eval_parts v (window_terms b (items - 2 ^ b) (first + 2 ^ b))) ≡ within (first + 2 ^ b) (items - 2 ^ b) (address / 4)
@@ -100,13 +91,14 @@ with_term v address is small b items first k few over start fits rest =
     let whole : 2 ^ b + (items - 2 ^ b) ≡ items = omega arith in
     any_bit-append (eval_parts v (window_terms b (items - 2 ^ b) (first + 2 ^ b))) _
     ∙ rw (rest, here, any_bit-one)
-    (or_swap (within (first + 2 ^ b) (items - 2 ^ b) (address / 4)) (within first (2 ^ b) (address / 4)) ∙ within_two first (2 ^ b) (items - 2 ^ b) (address / 4) ∙ ap (λ z. within first z (address / 4)) whole)
+    (or_comm (within (first + 2 ^ b) (items - 2 ^ b) (address / 4)) (within first (2 ^ b) (address / 4)) ∙ within_two first (2 ^ b) (items - 2 ^ b) (address / 4) ∙ ap (λ z. within first z (address / 4)) whole)
 
 -- the terms for the bits of `items` below bit b, at a multiple of 2^b
 abbrev Below : Values → ℕ → ℕ → Type 0
 Below v address b = (items first k : ℕ) → b ≤ 31 → items < 2 ^ b → first ≡ 2 ^ b * k → first + items < 2 ^ 30
     → any_bit (eval_parts v (window_terms b items first)) ≡ within first items (address / 4)
 
+-- one bit more, by whether it is set
 below_step : (v : Values) (address : ℕ) → v reg_addr ≡ bits 32 address → address < 2 ^ 32 → (b : ℕ) → Below v address b → (items first k : ℕ) → suc b ≤ 31 → items < 2 ^ suc b
     → first ≡ 2 ^ suc b * k → first + items < 2 ^ 30 → (test : Bool) → leb (2 ^ b) items ≡ test
     → any_bit (eval_parts v (cond test (more (equal (cut reg_addr 31 (b + 2)) (lit (30 - b) (first / 2 ^ b))) (window_terms b (items - 2 ^ b) (first + 2 ^ b))) (window_terms b items first)))
@@ -122,6 +114,7 @@ below_step v address is small b below items first k few less start fits true tes
     let rest = below (items - 2 ^ b) (first + 2 ^ b) (2 * k + 1) (omega arith) (omega arith) next (omega arith) in
     with_term v address is small b items first (2 * k) (omega arith) over place fits rest
 
+-- the terms tell what they are for, by going down the bits
 below_is : (v : Values) (address : ℕ) → v reg_addr ≡ bits 32 address → address < 2 ^ 32 → (b : ℕ) → Below v address b
 unfolding window_terms
 below_is v address is small zero items first k few less start fits = let empty : items ≡ 0 = omega arith in rw empty (sym (within_none first (address / 4)))
@@ -141,7 +134,7 @@ whole_above v address b power items first deep less lower =
 whole_at : (v : Values) (address : ℕ) → v reg_addr ≡ bits 32 address → address < 2 ^ 32 → (power items first turn : ℕ) → power ≤ 30 → items ≤ 2 ^ power
     → first ≡ 2 ^ power * turn → first + items < 2 ^ 30 → (test : Bool) → leb (2 ^ power) items ≡ test
     → any_bit (eval_parts v (cond test (more (equal (cut reg_addr 31 (power + 2)) (lit (30 - power) (first / 2 ^ power))) (window_terms power (items - 2 ^ power) (first + 2 ^ power)))
-        (window_terms power items first)))
+    (window_terms power items first)))
     ≡ within first items (address / 4)
 whole_at v address is small power items first turn few less start fits false test =
     below_is v address is small power items first turn (omega arith) (leb-false _ _ test) start fits
@@ -151,6 +144,7 @@ whole_at v address is small power items first turn few less start fits true test
     let rest = below_is v address is small power (items - 2 ^ power) (first + 2 ^ power) (turn + 1) (omega arith) (omega (arith, pow_pos power)) next (omega arith) in
     with_term v address is small power items first turn few over start fits rest
 
+-- the terms of all bits from b down
 whole_is : (v : Values) (address : ℕ) → v reg_addr ≡ bits 32 address → address < 2 ^ 32 → (b power items first turn : ℕ) → (power < b) ⊎ (b ≤ power) → b ≤ 30 → power ≤ b → items ≤ 2 ^ power
     → first ≡ 2 ^ power * turn → first + items < 2 ^ 30
     → any_bit (eval_parts v (window_terms (suc b) items first)) ≡ within first items (address / 4)
@@ -168,9 +162,11 @@ whole_is v address is small b power items first turn (inr flat) few over less st
 within_row : (row : LaidRow) (address first : ℕ) → row.first ≡ 4 * first → within first row.words (address / 4) ≡ holds_address row address
 within_row row address first start = both_ways _ _ (λ e. grind (arith, nat_tests)) (λ e. grind (arith, nat_tests))
 
+-- an offset's number of words
 quarter : (n m : ℕ) → n ≡ 4 * m → n / 4 ≡ m
 quarter n m e = omega arith
 
+-- the hit of a window
 pub window_hit : (v : Values) (address : ℕ) (row : LaidRow) (w : WindowDesc) → v reg_addr ≡ bits 32 address → address < 2 ^ 32 → row.words ≡ w.items → WindowFits row.first w
     → row.first + 4 * row.words ≤ 2 ^ 24 → eval v (hit_of row (Window w)) ≡ holds_address row address ∷ []
 window_hit v address row w is small words fits low =
@@ -179,9 +175,11 @@ window_hit v address row w is small words fits low =
     let bytes : row.first ≡ 4 * (row.first / 4) = omega (arith, fits.aligned) in
     ap (λ b. b ∷ []) (whole ∙ rw (← words) (within_row row address (row.first / 4) bytes))
 
+-- a register's word against the bytes of its row
 same_word : (row : LaidRow) (address turn : ℕ) → row.words ≡ 1 → row.first ≡ 4 * turn → eqb (address / 4) turn ≡ holds_address row address
 same_word row address turn words start = both_ways _ _ (λ e. grind (arith, nat_tests)) (λ e. grind (arith, nat_tests))
 
+-- the hit of a register
 pub register_hit : (v : Values) (address turn : ℕ) (row : LaidRow) (r : RegDesc) → v reg_addr ≡ bits 32 address → address < 2 ^ 32 → row.words ≡ 1 → row.first ≡ 4 * turn
     → row.first + 4 * row.words ≤ 2 ^ 24 → eval v (hit_of row (Reg r)) ≡ holds_address row address ∷ []
 register_hit v address turn row r is small words start low =

@@ -1,18 +1,17 @@
 -- What the six wires of a row hold.
-use Rattle.std.proofs.Common.{◌≡◌, ℕ, zero, suc, ◌+◌, ◌-◌, eqb, Bool, true, false, not, cond, ◌&&◌, ◌||◌, List, [], ◌∷◌, ◌++◌, take, drop, length, refl, ap, sym, ◌∙◌, Option, Some, None}
+use Rattle.std.proofs.Common.{◌≡◌, ℕ, eqb, Bool, true, false, not, cond, ◌&&◌, List, [], ◌∷◌, ◌++◌, refl, ap, sym, ◌∙◌, Some}
 use Rattle.std.proofs.lemmas.Bool.{eqb-true}
 use Rattle.std.proofs.Math.Bool.{and-false}
-use Rattle.cg_svspec.specs.Bits.{Bits, bits, any_bit, all_bits, zipped}
-use Rattle.cg_svspec.specs.Tree.{Expression, net, Entry}
+use Rattle.cg_svspec.specs.Bits.{Bits}
+use Rattle.cg_svspec.specs.Tree.{Expression, Entry}
 use Rattle.cg_svspec.specs.Value.{Values, eval, AllHold}
 use Rattle.cg_desc.specs.Target.{Target, register, word, error}
 use Rattle.cg_desc.specs.BlockStep.{Access, AccessKind, idle, read, write, is_read, is_write, Fields, Hardware, allows, item_at, is_accepted, is_at, is_open, item_word, takes_read}
-use Rattle.cg_desc.specs.declared.block.RegDesc.{RegDesc}
 use Rattle.cg_desc.specs.declared.block.Item.{Item}
 use Rattle.cg_desc.specs.declared.block.Item.TheVariants.{Reg, Window, SkipTo, Reserved}
 use Rattle.cg_desc.specs.declared.block.LaidRow.{LaidRow}
 use Rattle.cg_desc.specs.declared.block.LaidFace.{LaidFace}
-use Rattle.cg_regspec.specs.NetNames.{hit, wbad, rbad, we, re, rd, reg_we, reg_re}
+use Rattle.cg_regspec.specs.NetNames.{hit, wbad, rbad, we, re, rd}
 use Rattle.cg_regspec.specs.RegisterModule.{hit_of, write_refused, read_refused, gated, item_gate, item_word_text, row_entries}
 use Rattle.cg_regspec.proofs.Wires.{CarryAccess}
 
@@ -40,16 +39,18 @@ pub record RowHolds (v : Values) (face : LaidFace) (target : Target) (a : Access
   pub reads : v (re i) ≡ takes_read face target a i ∷ []
   pub shows : v (rd i) ≡ cond (is_at target i) (item_word fields hardware (Some item)) (eval v before)
 
--- an access is accepted at the row of its target as the row's item allows it
+-- the row that the target is at
 accepts_same : (rows : List LaidRow) (j i : ℕ) (item : Item) (kind : AccessKind) (strobes : Bits) → eqb j i ≡ true → item_at rows i ≡ Some item → item_at rows j ≡ Some item
 accepts_same rows j i item kind strobes there is = rw (eqb-true j i there) is
 
+-- an access is accepted at the row of its target as the row's item allows it
 accepts : (face : LaidFace) (target : Target) (a : Access) (i : ℕ) (item : Item) → item_at face.rows i ≡ Some item → is_at target i ≡ true
     → is_accepted face target a ≡ allows item a.kind a.strobes
 accepts face (register j) a i item is there = rw (accepts_same face.rows j i item a.kind a.strobes there is) refl
 accepts face (word j index) a i item is there = rw (accepts_same face.rows j i item a.kind a.strobes there is) refl
 accepts face error a i item is there = cc
 
+-- a test turned twice
 not_twice : (x free : Bool) → ((not (not x)) && free) ≡ (x && free)
 not_twice true free = refl
 not_twice false free = refl
@@ -62,6 +63,7 @@ write_taken read item strobes here accepted free same = refl
 write_taken write item strobes false accepted free same = sym (and-false accepted)
 write_taken write item strobes true accepted free same = rw (same refl) (not_twice (allows item write strobes) free)
 
+-- and alone
 not_back : (x : Bool) → not (not x) ≡ (x && true)
 not_back true = refl
 not_back false = refl
@@ -74,6 +76,7 @@ read_taken write item strobes here accepted same = refl
 read_taken read item strobes false accepted same = sym (and-false accepted)
 read_taken read item strobes true accepted same = rw (same refl) (not_back (allows item read strobes))
 
+-- a row's wires, from what its expressions say
 pub row_holds : (v state next : Values) (face : LaidFace) (target : Target) (a : Access) (fields : Fields) (hardware : Hardware) (i : ℕ) (before : Expression) (row : LaidRow)
     (rest : List Entry) → CarryAccess v a → item_at face.rows i ≡ Some row.item → RowTells v face a fields hardware row (is_at target i)
     → AllHold v state next (row_entries face.rows i before row ++ rest) → RowHolds v face target a fields hardware i before row.item
@@ -87,8 +90,8 @@ row_holds v state next face target a fields hardware i before row rest carry the
       write_refusal = bad_write;
       read_refusal = bad_read;
       writes = holds.1.1.1.0 ∙ (tells.gate _ ((is_write a.kind && is_at target i) && not (is_at target i && not (allows row.item write a.strobes))) (rw (carry.we, hits, bad_write) refl)
-        ∙ ap (λ b. b ∷ []) (write_taken a.kind row.item a.strobes (is_at target i) (is_accepted face target a) (item_is_open face fields row.item) same));
+          ∙ ap (λ b. b ∷ []) (write_taken a.kind row.item a.strobes (is_at target i) (is_accepted face target a) (item_is_open face fields row.item) same));
       reads = holds.1.1.1.1.0 ∙ (rw (carry.re, hits, bad_read) refl
-        ∙ ap (λ b. b ∷ []) (read_taken a.kind row.item a.strobes (is_at target i) (is_accepted face target a) same));
+          ∙ ap (λ b. b ∷ []) (read_taken a.kind row.item a.strobes (is_at target i) (is_accepted face target a) same));
       shows = holds.1.1.1.1.1.0 ∙ rw (hits, tells.word) refl;
     }

@@ -1,22 +1,21 @@
 -- A valuation of a register module is the step of its interface's register block.
-use Rattle.std.proofs.Common.{◌≡◌, ℕ, ◌+◌, ◌^◌, ◌<◌, Bool, true, false, not, cond, ◌&&◌, ◌||◌, List, [], ◌∷◌, ◌++◌, length, refl, ap, sym, ◌∙◌, arith, Option, Some, None}
-use Rattle.std.proofs.Math.Bool.{and-false}
+use Rattle.std.proofs.Common.{◌≡◌, ℕ, ◌+◌, Bool, true, false, not, ◌&&◌, ◌||◌, List, [], ◌∷◌, ◌++◌, length, refl, ap, sym, ◌∙◌}
+use Rattle.std.proofs.Math.Bool.{and-false, and-true}
 use Rattle.cg_svspec.specs.Printable.{AllOf}
-use Rattle.cg_svspec.specs.Bits.{Bits, bits, ones}
-use Rattle.cg_svspec.specs.Tree.{Expression, net, Entry}
+use Rattle.cg_svspec.specs.Tree.{Expression, net}
 use Rattle.cg_svspec.specs.Register.{access_ports}
 use Rattle.cg_svspec.specs.Value.{Values, Valuation, HasWidths, AllHold, InputHolds, InputFits, StateFitsIn}
 use Rattle.cg_desc.specs.Target.{Target, target_at}
-use Rattle.cg_desc.specs.BlockStep.{Access, is_read, is_write, is_accepted, is_error, is_at, word_at, Where, WindowSteps, ItemSteps, EachRow, BlockStep}
+use Rattle.cg_desc.specs.BlockStep.{Access, is_read, is_write, is_accepted, is_error, is_at, WindowSteps, ItemSteps, EachRow, BlockStep}
 use Rattle.cg_desc.specs.Laid.{IsLaid}
 use Rattle.cg_desc.specs.declared.block.WindowDesc.{WindowDesc}
 use Rattle.cg_desc.specs.declared.block.Item.{Item}
 use Rattle.cg_desc.specs.declared.block.Item.TheVariants.{Reg, Window, SkipTo, Reserved}
 use Rattle.cg_desc.specs.declared.block.LaidRow.{LaidRow}
 use Rattle.cg_desc.specs.declared.block.LaidFace.{LaidFace}
-use Rattle.cg_regspec.specs.NetNames.{reg_error, reg_rdata, rd}
+use Rattle.cg_regspec.specs.NetNames.{rd}
 use Rattle.cg_regspec.specs.RegisterModule.{register_module, rows_ports, rows_states, rows_entries, all_ones, answer_entries, item_fields, rows_fields, item_windows, rows_windows, rows_flops}
-use Rattle.cg_regspec.specs.Meaning.{Carries, bit_of, fields_in, hardware_in, outcome_in}
+use Rattle.cg_regspec.specs.Meaning.{Carries, fields_in, hardware_in, outcome_in}
 use Rattle.cg_regspec.proofs.Parts.{hold_front, hold_back, all_front, all_back}
 use Rattle.cg_regspec.proofs.Wires.{CarryAccess, ItemWires, RowsWires, rows_wires}
 use Rattle.cg_regspec.proofs.Rows.{RowHolds}
@@ -26,15 +25,12 @@ use Rattle.cg_regspec.proofs.Fields.{where_true, fields_step}
 
 -- ---- a window
 
-and_true : (b : Bool) → (b && true) ≡ b
-and_true true = refl
-and_true false = refl
-
+-- the step of a window in row i
 window_steps : (v state next inputs : Values) (face : LaidFace) (target : Target) (a : Access) (i : ℕ) (before : Expression) (w : WindowDesc) → CarryAccess v a
     → RowHolds v face target a (fields_in state) (hardware_in inputs) i before (Window w) → AllHold v state next (item_windows i (Window w))
     → WindowSteps face target a (outcome_in v next) i w
 window_steps v state next inputs face target a i before w carry has holds = record {
-  write_seen = rw (holds.0, has.writes, and_true (is_at target i)) refl;
+  write_seen = rw (holds.0, has.writes, and-true (is_at target i)) refl;
   read_seen = rw (holds.1.0, has.reads) refl;
   address_seen = holds.1.1.0 ∙ carry.address;
   data_seen = holds.1.1.1.0 ∙ carry.data_in;
@@ -43,6 +39,7 @@ window_steps v state next inputs face target a i before w carry has holds = reco
 
 -- ---- each row
 
+-- the step of an item in row i
 item_steps : (v state next inputs : Values) (face : LaidFace) (target : Target) (a : Access) (i : ℕ) (before : Expression) (item : Item) → CarryAccess v a
     → RowHolds v face target a (fields_in state) (hardware_in inputs) i before item → ItemWires v state next inputs item
     → AllHold v state next (item_fields i item) → AllHold v state next (item_windows i item)
@@ -53,6 +50,7 @@ item_steps v state next inputs face target a i before (Window w) carry has wires
 item_steps v state next inputs face target a i before (SkipTo to at) carry has wires fields windows = tt
 item_steps v state next inputs face target a i before (Reserved words at) carry has wires fields windows = tt
 
+-- the step of the rows from number i on
 rows_step : (v state next inputs : Values) (face : LaidFace) (target : Target) (a : Access) (i : ℕ) (before : Expression) (rows : List LaidRow) → CarryAccess v a
     → RowsHold v face target a (fields_in state) (hardware_in inputs) i before rows → RowsWires v state next inputs rows
     → AllHold v state next (rows_fields i rows) → AllHold v state next (rows_windows i rows)
@@ -88,6 +86,7 @@ record Groups (v state next : Values) (face : LaidFace) : Type 0 where
   windows : AllHold v state next (rows_windows 0 face.rows)
   flops : AllHold v state next (rows_flops face.rows)
 
+-- the groups, one after the other
 groups : (v state next : Values) (face : LaidFace)
     → AllHold v state next (rows_states face.rows ++ (rows_entries face.rows 0 all_ones face.rows ++ (answer_entries face.rows ++ (rows_fields 0 face.rows ++ (rows_windows 0 face.rows ++ rows_flops face.rows)))))
     → Groups v state next face
@@ -104,6 +103,7 @@ groups v state next face holds =
       flops = hold_back v state next (rows_windows 0 face.rows) _ from_windows;
     }
 
+-- an accepted read is no error
 no_error : (w rd accepted : Bool) → (rd && accepted) ≡ true → ((w || rd) && not accepted) ≡ false
 no_error w rd true e = and-false (w || rd)
 no_error w true false e = cc
@@ -123,6 +123,7 @@ step_of_groups inputs state v next face a laid carry wires parts =
       each = rows_step v state next inputs face target a 0 all_ones face.rows carry has wires parts.fields parts.windows;
     }
 
+-- the states' widths, which the flip-flops have
 flops_fit : (state : Values) (face : LaidFace)
     → AllOf (StateFitsIn state) (rows_states face.rows ++ (rows_entries face.rows 0 all_ones face.rows ++ (answer_entries face.rows ++ (rows_fields 0 face.rows ++ (rows_windows 0 face.rows ++ rows_flops face.rows)))))
     → AllOf (StateFitsIn state) (rows_flops face.rows)
@@ -139,7 +140,7 @@ unfolding register_module
 module_steps name face laid inputs state v next a widths carries valuation =
     let parts = groups v state next face valuation.entries_hold in
     let carry = carry_access v inputs a carries (all_front (InputHolds v inputs) access_ports (rows_ports face.rows) valuation.inputs_hold)
-        (all_front (InputFits inputs) access_ports (rows_ports face.rows) widths.inputs_fit) in
+    (all_front (InputFits inputs) access_ports (rows_ports face.rows) widths.inputs_fit) in
     let wires = rows_wires v state next inputs face.rows parts.flops (flops_fit state face widths.states_fit)
-        (all_back (InputHolds v inputs) access_ports (rows_ports face.rows) valuation.inputs_hold) (all_back (InputFits inputs) access_ports (rows_ports face.rows) widths.inputs_fit) in
+    (all_back (InputHolds v inputs) access_ports (rows_ports face.rows) valuation.inputs_hold) (all_back (InputFits inputs) access_ports (rows_ports face.rows) widths.inputs_fit) in
     step_of_groups inputs state v next face a laid carry wires parts

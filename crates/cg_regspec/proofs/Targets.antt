@@ -1,8 +1,8 @@
 -- The target of an address is at just the row that holds it.
-use Rattle.std.proofs.Common.{◌≡◌, ℕ, zero, suc, ◌+◌, ◌-◌, ◌*◌, ◌/◌, ◌<◌, ◌≤◌, eqb, leb, ltb, Bool, true, false, cond, ◌&&◌, List, [], ◌∷◌, refl, ap, sym, ◌∙◌, arith, if◌then◌else◌}
+use Rattle.std.proofs.Common.{◌≡◌, ℕ, ◌+◌, ◌-◌, ◌*◌, ◌/◌, ◌<◌, ◌≤◌, Bool, true, false, List, [], ◌∷◌, refl, sym, ◌∙◌, arith, if◌then◌else◌}
 use Rattle.std.proofs.lemmas.Bool.Decides.{nat_tests}
 use Rattle.std.proofs.lemmas.Bool.{ne_eqb, eq-eqb}
-use Rattle.cg_desc.specs.Target.{Target, register, word, error, aligned, holds_address, target_in, target_from}
+use Rattle.cg_desc.specs.Target.{Target, aligned, holds_address, target_in, target_from}
 use Rattle.cg_desc.specs.BlockStep.{is_at}
 use Rattle.cg_desc.specs.Laid.{RowFits, RowsFit}
 use Rattle.cg_desc.specs.declared.block.Item.{Item}
@@ -15,12 +15,14 @@ data Stands (target : Target) (i low : ℕ) (rows : List LaidRow) (address : ℕ
   ahead : target ≡ target_from i rows address → Stands target i low rows address
   behind : ((j : ℕ) → i ≤ j → is_at target j ≡ false) → aligned address < low → Stands target i low rows address
 
+-- what is held by row i is at no earlier row
 in_later : (i k index : ℕ) (item : Item) → k < i → is_at (target_in i index item) k ≡ false
 in_later i k index (Reg r) below = ne_eqb i k (λ e. omega arith)
 in_later i k index (Window w) below = ne_eqb i k (λ e. omega arith)
 in_later i k index (SkipTo to at) below = refl
 in_later i k index (Reserved words at) below = refl
 
+-- a target by a test is at no row where neither choice is
 at_either : (b : Bool) (x y : Target) (k : ℕ) → is_at x k ≡ false → is_at y k ≡ false → is_at (if b then x else y) k ≡ false
 at_either true x y k e f = e
 at_either false x y k e f = f
@@ -58,6 +60,7 @@ record Goes (target : Target) (i low : ℕ) (row : LaidRow) (rows : List LaidRow
   here : holds_address row address ≡ is_at target i
   later : Stands target (i + 1) low rows address
 
+-- by whether the row holds the address, where the target is still looked for
 goes_by : (all : List LaidRow) (target : Target) (i low address : ℕ) (row : LaidRow) (rows : List LaidRow) → RowFits all row
     → (b : Bool) → holds_address row address ≡ b → target ≡ (if b then target_in i ((aligned address - row.first) / 4) row.item else target_from (i + 1) rows address)
     → Goes target i (row.first + 4 * row.words) row rows address
@@ -70,6 +73,7 @@ goes_by all target i low address row rows fits false misses is = record {
   later = ahead is;
 }
 
+-- in both cases
 goes : (all : List LaidRow) (target : Target) (i low address : ℕ) (row : LaidRow) (rows : List LaidRow) → low ≤ row.first → RowFits all row
     → Stands target i low (row ∷ rows) address → Goes target i (row.first + 4 * row.words) row rows address
 goes all target i low address row rows up fits (ahead is) = goes_by all target i low address row rows fits (holds_address row address) refl is
@@ -83,6 +87,7 @@ abbrev pub AtTheirRows : Target → ℕ → ℕ → List LaidRow → Type 0
 AtTheirRows target address i [] = Unit {0}
 AtTheirRows target address i (row ∷ rows) = (holds_address row address ≡ is_at target i) × AtTheirRows target address (i + 1) rows
 
+-- from the rows' places, by going down the list
 at_their_rows : (all : List LaidRow) (target : Target) (i low address : ℕ) (rows : List LaidRow) → RowsFit all low rows → Stands target i low rows address
     → AtTheirRows target address i rows
 at_their_rows all target i low address [] fit stands = tt
@@ -90,5 +95,6 @@ at_their_rows all target i low address (row ∷ rows) fit stands =
     let goes_on = goes all target i low address row rows fit.0 fit.1 stands in
     (goes_on.here, at_their_rows all target (i + 1) (row.first + 4 * row.words) address rows fit.2 goes_on.later)
 
+-- for all rows of an interface
 pub at_rows : (all : List LaidRow) (address : ℕ) (rows : List LaidRow) → RowsFit all 0 rows → AtTheirRows (target_from 0 rows address) address 0 rows
 at_rows all address rows fit = at_their_rows all (target_from 0 rows address) 0 0 address rows fit (ahead refl)

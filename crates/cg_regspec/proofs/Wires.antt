@@ -1,5 +1,5 @@
 -- The nets that come from outside: the access, what hardware brings, and the states.
-use Rattle.std.proofs.Common.{◌≡◌, ℕ, ◌+◌, ◌-◌, ◌^◌, ◌<◌, Bool, true, false, cond, List, [], ◌∷◌, ◌++◌, length, refl, sym, ◌∙◌, Option, Some, None}
+use Rattle.std.proofs.Common.{◌≡◌, ◌^◌, ◌<◌, Bool, true, false, cond, List, [], ◌∷◌, ◌++◌, length}
 use Rattle.cg_svspec.specs.Printable.{AllOf}
 use Rattle.cg_svspec.specs.Bits.{bits}
 use Rattle.cg_svspec.specs.Tree.{Port, Entry}
@@ -8,7 +8,6 @@ use Rattle.cg_svspec.specs.Register.{input_port, output_port}
 use Rattle.cg_desc.specs.BlockStep.{Access, is_read, is_write, shows_q, shows_qe, shows_re, EachField}
 use Rattle.cg_desc.specs.declared.block.FieldDesc.{FieldDesc}
 use Rattle.cg_desc.specs.declared.block.RegDesc.{RegDesc}
-use Rattle.cg_desc.specs.declared.block.WindowDesc.{WindowDesc}
 use Rattle.cg_desc.specs.declared.block.Item.{Item}
 use Rattle.cg_desc.specs.declared.block.Item.TheVariants.{Reg, Window, SkipTo, Reserved}
 use Rattle.cg_desc.specs.declared.block.LaidRow.{LaidRow}
@@ -36,6 +35,7 @@ pub record FieldWires (v state next inputs : Values) (r : RegDesc) (f : FieldDes
   pub brought_width : takes_d r f ≡ true → length (inputs (d_net r f)) ≡ width_of f
   pub strobe : takes_de r f ≡ true → v (de_net r f) ≡ inputs (de_net r f)
 
+-- the nets of each field of a register
 abbrev pub RegisterWires : Values → Values → Values → Values → RegDesc → Type 0
 RegisterWires v state next inputs r = EachField (FieldWires v state next inputs r) r.fields
 
@@ -46,10 +46,12 @@ ItemWires v state next inputs (Window w) = v (window_rdata w) ≡ inputs (window
 ItemWires v state next inputs (SkipTo to at) = Unit {0}
 ItemWires v state next inputs (Reserved words at) = Unit {0}
 
+-- the nets of all rows
 abbrev pub RowsWires : Values → Values → Values → Values → List LaidRow → Type 0
 RowsWires v state next inputs [] = Unit {0}
 RowsWires v state next inputs (row ∷ rows) = ItemWires v state next inputs row.item × RowsWires v state next inputs rows
 
+-- a port that is there where the test holds
 port_there : (P : Port → Type 0) (b : Bool) (p : Port) → AllOf P (port_if b p) → b ≡ true → P p
 port_there P true p h e = h.0
 port_there P false p h e = cc
@@ -60,12 +62,14 @@ last_ports P c d p q xs ys zs h =
     let last = all_back P zs (port_if c p ++ port_if d q) (all_back P ys _ (all_back P xs _ h)) in
     (port_there P c p (all_front P (port_if c p) (port_if d q) last), port_there P d q (all_back P (port_if c p) (port_if d q) last))
 
+-- what a field's ports `d` and `de` say
 brought_ports : (P : Port → Type 0) (r : RegDesc) (f : FieldDesc) → AllOf P (field_ports r f)
     → (takes_d r f ≡ true → P (input_port (width_of f) (d_net r f))) × (takes_de r f ≡ true → P (input_port 1 (de_net r f)))
 brought_ports P r f h =
     last_ports P (takes_d r f) (takes_de r f) (input_port (width_of f) (d_net r f)) (input_port 1 (de_net r f)) (port_if (shows_q r f) (output_port (width_of f) (q_net r f)))
     (port_if (shows_qe r f) (output_port 1 (qe_net r f))) (port_if (shows_re r f) (output_port 1 (re_net r f))) h
 
+-- the nets of a register's fields, from its flip-flops and its ports
 field_wires : (v state next inputs : Values) (r : RegDesc) (fs : List FieldDesc) → (r.hwext ≡ false → AllHold v state next (flops_of r fs))
     → (r.hwext ≡ false → AllOf (StateFitsIn state) (flops_of r fs)) → AllOf (InputHolds v inputs) (fields_ports r fs) → AllOf (InputFits inputs) (fields_ports r fs)
     → EachField (FieldWires v state next inputs r) fs
@@ -85,14 +89,17 @@ field_wires v state next inputs r (f ∷ fs) flops fit inputs_hold inputs_fit =
           (all_back (InputFits inputs) (field_ports r f) (fields_ports r fs) inputs_fit),
     )
 
+-- a register that is not external has its flip-flops
 flops_hold : (v state next : Values) (b : Bool) (es : List Entry) → AllHold v state next (cond b [] es) → b ≡ false → AllHold v state next es
 flops_hold v state next true es h e = cc
 flops_hold v state next false es h e = h
 
+-- and they have their widths
 flops_fit : (state : Values) (b : Bool) (es : List Entry) → AllOf (StateFitsIn state) (cond b [] es) → b ≡ false → AllOf (StateFitsIn state) es
 flops_fit state true es h e = cc
 flops_fit state false es h e = h
 
+-- the nets of an item, from its flip-flops and its ports
 item_wires : (v state next inputs : Values) (item : Item) → AllHold v state next (item_flops item) → AllOf (StateFitsIn state) (item_flops item)
     → AllOf (InputHolds v inputs) (item_ports item) → AllOf (InputFits inputs) (item_ports item) → ItemWires v state next inputs item
 item_wires v state next inputs (Reg r) flops fit inputs_hold inputs_fit =
@@ -101,6 +108,7 @@ item_wires v state next inputs (Window w) flops fit inputs_hold inputs_fit = inp
 item_wires v state next inputs (SkipTo to at) flops fit inputs_hold inputs_fit = tt
 item_wires v state next inputs (Reserved words at) flops fit inputs_hold inputs_fit = tt
 
+-- the nets of all rows, from theirs
 pub rows_wires : (v state next inputs : Values) (rows : List LaidRow) → AllHold v state next (rows_flops rows) → AllOf (StateFitsIn state) (rows_flops rows)
     → AllOf (InputHolds v inputs) (rows_ports rows) → AllOf (InputFits inputs) (rows_ports rows) → RowsWires v state next inputs rows
 rows_wires v state next inputs [] flops fit inputs_hold inputs_fit = tt
