@@ -1,0 +1,15 @@
+pub mod BitLists
+pub mod Parts
+pub mod Targets
+pub mod Hits
+pub mod Wires
+pub mod Words
+pub mod Rows
+pub mod Gates
+pub mod Items
+pub mod AllRows
+pub mod Answer
+pub mod Fields
+pub mod Steps
+pub mod Resets
+pub mod Means

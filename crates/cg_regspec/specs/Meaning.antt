@@ -1,5 +1,5 @@
 -- What a register module means: its step is the step of the block's interface.
-use Rattle.std.specs.Prelude.{◌≡◌, ℕ, ◌+◌, ◌^◌, ◌<◌, Bool, true, false, not, cond, List, [], ◌∷◌}
+use Rattle.std.specs.Prelude.{◌≡◌, ℕ, ◌^◌, ◌<◌, Bool, false, not, [], ◌∷◌}
 use Rattle.cg_svspec.specs.Bits.{Bits, bits}
 use Rattle.cg_svspec.specs.Tree.{Module}
 use Rattle.cg_svspec.specs.Value.{Values, Valuation, HasWidths, IsReset}
@@ -7,10 +7,8 @@ use Rattle.cg_svspec.specs.WellFormed.{WellFormed}
 use Rattle.cg_svspec.specs.Register.{IsRegister}
 use Rattle.cg_desc.specs.Target.{target_at}
 use Rattle.cg_desc.specs.BlockStep.{Access, is_read, is_write, Fields, Hardware, Outcome, BlockStep, EachField, EachRow, Where}
-use Rattle.cg_desc.specs.declared.block.FieldDesc.{FieldDesc}
-use Rattle.cg_desc.specs.declared.block.RegDesc.{RegDesc}
 use Rattle.cg_desc.specs.declared.block.Item.{Item}
-use Rattle.cg_desc.specs.declared.block.Item.TheVariants.{Reg, Window, SkipTo, Reserved}
+use Rattle.cg_desc.specs.declared.block.Item.TheVariants.{Reg}
 use Rattle.cg_desc.specs.declared.block.LaidFace.{LaidFace}
 use Rattle.cg_regspec.specs.NetNames.{reg_we, reg_re, reg_addr, reg_wdata, reg_be, reg_rdata, reg_error, state_net, q_net, qe_net, re_net, d_net, de_net, window_we, window_re, window_addr, window_wdata, window_be, window_rdata}
 use Rattle.cg_regspec.specs.RegisterModule.{width_of}

@@ -1,9 +1,9 @@
 -- The register module of a laid interface: ports and entries in their order and spelling.
-use Rattle.std.specs.Prelude.{ℕ, zero, suc, ◌+◌, ◌-◌, ◌*◌, ◌/◌, ◌^◌, eqb, leb, Bool, true, false, not, ◌&&◌, cond, List, [], ◌∷◌, ◌++◌, codes, Option, Some, None}
+use Rattle.std.specs.Prelude.{ℕ, zero, suc, ◌+◌, ◌-◌, ◌/◌, ◌^◌, eqb, leb, Bool, false, ◌&&◌, cond, List, [], ◌∷◌, ◌++◌, codes, Option, Some, None}
 use Rattle.cg_svspec.specs.Tree.{Expression, net, cut, lit, cat, inv, any, and, or, equal, pick, Expressions, none, more, Port, Parameter, Connection, Entry, wire, drive, assign, inst, Module}
 use Rattle.cg_svspec.specs.Register.{access_ports, input_port, output_port}
 use Rattle.cg_svspec.specs.Value.{flop_name}
-use Rattle.cg_desc.specs.AccessTable.{is_readable, is_writable, hardware_writes}
+use Rattle.cg_desc.specs.AccessTable.{is_readable, hardware_writes}
 use Rattle.cg_desc.specs.BlockStep.{needed_bytes, is_read_only, is_write_only, register_named, shows_q, shows_qe, shows_re}
 use Rattle.cg_desc.specs.declared.block.SwAccess.{SwAccess}
 use Rattle.cg_desc.specs.declared.block.SwAccess.TheVariants.{Ro, Rc, Rw, R0w1c, Rw1s, Rw1c, Rw0c, Wo, Nothing}
@@ -83,7 +83,7 @@ abbrev pub slice : List ℕ → ℕ → ℕ → ℕ → Expression
 slice n width msb lsb = cond (eqb lsb 0 && eqb (suc msb) width) (net n) (cut n msb lsb)
 
 -- One term for each set bit of `items` below `bits`, the highest first; `at` is the first word that is left.
-abbrev pub window_terms : ℕ → ℕ → ℕ → Expressions
+unfoldable pub window_terms : ℕ → ℕ → ℕ → Expressions
 window_terms zero items at = none
 window_terms (suc b) items at =
     cond (leb (2 ^ b) items)
