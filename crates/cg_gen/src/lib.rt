@@ -1,6 +1,7 @@
 //! The top call.
 #![tactic(auto)]
 
+mod build;
 mod due;
 mod ending;
 mod face;
