@@ -3,6 +3,7 @@ ghost use Rattle.cg_desc.specs.declared.fault.DescFault.TheVariants.{Memory as O
 
 use crate::At;
 use cg_base::{Memory, Text};
+use std::cmp::Ordering;
 use thiserror::Error;
 
 /// A rule that a description breaks, with the place where it does.
@@ -28,6 +29,42 @@ pub enum DescFault {
     /// Memory was not found; it says nothing about the description.
     #[error("out of memory")]
     Memory,
+}
+
+impl Fault {
+    ghost use Rattle.std.specs.Prelude.{◌↔◌, IsTrue};
+    ghost use Rattle.cg_desc.specs.Faults.{Before, fault_cmp};
+
+    /// Whether this fault is told rather than the other: by phase, then file, then byte place, then
+    /// rule, then the bytes of the name. It takes no memory.
+    pub fn before(&self, other: &Fault) -> bool
+        ensures { IsTrue result ↔ Before self.now other.now }
+    {
+        self.compare(other).is_lt()
+    }
+
+    #[tactic(auto, unfolding(crate::specs::Faults::fault_cmp))]
+    fn compare(&self, other: &Fault) -> Ordering
+        ensures { result ≡ fault_cmp self.now other.now }
+    {
+        self.phase
+            .cmp(&other.phase)
+            .then(self.file.cmp(&other.file))
+            .then(self.at.byte.cmp(&other.at.byte))
+            .then(self.rule.cmp(&other.rule))
+            .then(self.name.cmp(&other.name))
+    }
+}
+
+ghost use Rattle.cg_desc.specs.Faults.{BeforeIsIrreflexive, BeforeIsTransitive, BeforeIsTotal};
+
+/// The order of faults is a strict one, and total up to what it reads: two faults of which neither
+/// is before the other agree in phase, file, byte place, rule and name.
+pub fn faults_are_ordered()
+    ensures irreflexive { BeforeIsIrreflexive }
+    ensures transitive { BeforeIsTransitive }
+    ensures total { BeforeIsTotal }
+{
 }
 
 impl From<Memory> for DescFault {
