@@ -7,7 +7,12 @@
 #![tactic(auto)]
 
 mod fault;
+mod fault_line;
 mod place;
 
-pub use fault::{DescFault, Fault};
+pub use fault::{DescFault, Fault, faults_are_ordered};
+pub use fault_line::fault_text;
 pub use place::At;
+
+#[cfg(test)]
+mod tests;
