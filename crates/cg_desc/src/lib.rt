@@ -22,3 +22,6 @@ pub use block::{
 pub use fault::{DescFault, Fault, faults_are_ordered};
 pub use fault_line::fault_text;
 pub use place::At;
+
+#[cfg(test)]
+mod tests;
