@@ -5,3 +5,4 @@ pub mod PlainFaces
 pub mod Endings
 pub mod Once
 pub mod Meanings
+pub mod Dues

@@ -12,7 +12,8 @@ ghost use Rattle.cg_gen.specs.Build.{Output, limit};
 ghost use Rattle.cg_gen.specs.Due.{IsDueFor, due_of_outputs, stored_name, built_line, line};
 
 use crate::due::{Change, Due};
-
+use crate::faults::not_built_due;
+use crate::form::{Form, read_form};
 use cg_base::{List, Memory, Text};
 use cg_sv::{Module, print};
 use std::alloc::Global;
@@ -64,4 +65,26 @@ fn module_due(alloc: Global, dir: &str, name: &str, module: &Module) -> Result<D
         line: built_line(alloc, 1)?,
         status: 0,
     })
+}
+
+/// What is due for a text of the form.
+fn form_due(alloc: Global, dir: &str, file: &str, text: &[u8], form: &Form) -> Result<Due, Memory>
+    requires few { length text.now ≤ limit }
+    requires form { IsForm text.now form.now }
+    ensures { IfOk result (λ d. IsDueFor (record { dir = dir.now; file = file.now }) (Some text.now) d) }
+{
+    not_built_due(alloc, file)
+}
+
+/// What is due for the bytes that the store gave.
+pub fn given_due(alloc: Global, dir: &str, file: &str, text: &[u8]) -> Result<Due, Memory>
+    ensures { IfOk result (λ d. IsDueFor (record { dir = dir.now; file = file.now }) (Some text.now) d) }
+{
+    if text.len() > LIMIT {
+        return Ok(not_built_due(alloc, file)?);
+    }
+    match read_form(alloc, text)? {
+        Some(form) => Ok(form_due(alloc, dir, file, text, &form)?),
+        None => Ok(not_built_due(alloc, file)?),
+    }
 }

@@ -10,8 +10,10 @@ mod form;
 mod perform;
 mod plan;
 mod stop;
+mod top;
 mod words;
 
 pub use due::{Change, Due};
 pub use ending::Ending;
 pub use stop::Stop;
+pub use top::run;

@@ -1,14 +1,16 @@
 //! What is due: by the words, by the file that they name, and by its first fault or its outputs.
 
-ghost use Rattle.std.specs.Prelude.{◌≡◌, ◌<◌, ◌++◌, [], ◌∷◌, length, map, string_bytes, codes, Some, None, IfOk, IfSome, OnOk, Option, List, ℕ};
+ghost use Rattle.std.specs.Prelude.{◌≡◌, ◌<◌, map, string_bytes, Some, None, IfOk, OnErr, IsErrOf, Option, List, ℕ};
 ghost use Rattle.cg_base.specs.Outside.{Rose};
 ghost use Rattle.cg_gen.specs.Command.{Regtool, command_of};
-ghost use Rattle.cg_gen.specs.Build.{Output, IsFirstFault, IsBuilt, opener_from, start};
-ghost use Rattle.cg_gen.specs.Due.{IsDue, IsDueFor, Gave, due_of_no_command, due_of_fault, due_of_outputs, usage, line, built_line, stored_name};
+ghost use Rattle.cg_gen.specs.Due.{IsDue, IsDueFor, Gave, due_of_no_command, usage};
 
-use crate::due::{Change, Due};
-use cg_base::{List, Memory, Text};
-
+use crate::build::{LIMIT, given_due};
+use crate::due::Due;
+use crate::faults::{absent_due, not_built_due};
+use crate::stop::Stop;
+use crate::words::read_words;
+use cg_base::{Found, List, Memory, Store, StoreFault, Text};
 use std::alloc::Global;
 
 #[tactic(auto, unfolding(crate::specs::Due::usage))]
@@ -27,4 +29,38 @@ fn usage_due(alloc: Global) -> Result<Due, Memory>
         line: Text::of(alloc, usage())?,
         status: 2,
     })
+}
+
+/// What is due for a command: its file is read, and its first fault is told or its outputs are written.
+fn command_due<S: Store>(alloc: Global, dir: &str, file: &str, store: &mut S) -> Result<Due, Stop>
+    ensures due { IfOk result (λ d. (given : Option (List ℕ)) × Gave (S.content store.old) file.now given × IsDueFor (record { dir = dir.now; file = file.now }) given d) }
+    ensures rose { result ≡ Err Stop.ReadFailed → Rose (S.read_faults store.old) (S.read_faults store.new) }
+    ensures same { S.content store.new ≡ S.content store.old }
+    ensures changes { S.change_faults store.new ≡ S.change_faults store.old }
+{
+    let mut bytes = Vec::new(alloc);
+    let found = match store.read(file, LIMIT, &mut bytes) {
+        Ok(found) => found,
+        Err(StoreFault::Failed) => return Err(Stop::ReadFailed),
+        Err(StoreFault::Memory) => return Err(Stop::Memory),
+    };
+    match found {
+        Found::Yes => Ok(given_due(alloc, dir, file, &bytes)?),
+        Found::Absent => Ok(absent_due(alloc, file)?),
+        Found::Large => Ok(not_built_due(alloc, file)?),
+    }
+}
+
+/// What is due for the words.
+pub fn plan<S: Store>(alloc: Global, words: &[String], store: &mut S) -> Result<Due, Stop>
+    ensures due { IfOk result (λ d. IsDue (map string_bytes words.now) (S.content store.old) d) }
+    ensures status { IfOk result (λ d. d.status < 3) }
+    ensures rose { result ≡ Err Stop.ReadFailed → Rose (S.read_faults store.old) (S.read_faults store.new) }
+    ensures same { S.content store.new ≡ S.content store.old }
+    ensures changes { S.change_faults store.new ≡ S.change_faults store.old }
+{
+    match read_words(words) {
+        Some(command) => Ok(command_due(alloc, command.dir, command.file, store)?),
+        None => Ok(usage_due(alloc)?),
+    }
 }
