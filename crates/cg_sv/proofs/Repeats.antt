@@ -49,11 +49,11 @@ unseen names i d old new whole added lt told was inserted before =
     let n : List ℕ = (get_or names i d).now in
     let rest : List (List ℕ) = bytes_of (drop (i + 1) names) in
     let seen : (m : List ℕ) → is_among (bytes_of new) m ≡ is_among (n ∷ bytes_of old) m =
-        λ m. among_keys new m ∙ inserted m ∙ or_cond (bytes_eq n m) (has old m) ∙ ap (λ (t : Bool). bytes_eq n m || t) (sym (among_keys old m)) in
+    λ m. among_keys new m ∙ inserted m ∙ or_cond (bytes_eq n m) (has old m) ∙ ap (λ (t : Bool). bytes_eq n m || t) (sym (among_keys old m)) in
     same_seen (bytes_of new) (n ∷ bytes_of old) rest seen
-      ∙ sym (by_first old n rest false (not-true (has old n) (sym told ∙ was)))
-      ∙ ap (first_repeat_after (bytes_of old)) (sym (here names i d lt))
-      ∙ before
+    ∙ sym (by_first old n rest false (not-true (has old n) (sym told ∙ was)))
+    ∙ ap (first_repeat_after (bytes_of old)) (sym (here names i d lt))
+    ∙ before
 
 -- a name that was seen
 pub seen_again : (names : Names) (i : ℕ) (d : Bor (List ℕ)) (old : Names) (whole : Option (List ℕ)) (added : Bool) → i < length names
@@ -64,8 +64,8 @@ seen_again names i d old whole added lt told was before =
     let n : List ℕ = (get_or names i d).now in
     let rest : List (List ℕ) = bytes_of (drop (i + 1) names) in
     sym (by_first old n rest true (not-false (has old n) (sym told ∙ was)))
-      ∙ ap (first_repeat_after (bytes_of old)) (sym (here names i d lt))
-      ∙ before
+    ∙ ap (first_repeat_after (bytes_of old)) (sym (here names i d lt))
+    ∙ before
 
 none_at : (known : Bool) (n : List ℕ) (rest : Option (List ℕ)) → cond known (Some n) rest ≡ None → (known ≡ false) × (rest ≡ None)
 none_at true n rest none = cc

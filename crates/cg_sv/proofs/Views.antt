@@ -68,5 +68,5 @@ value_text-other x other =
     let y = expr.out-Expr x in
     let here : expression_of x ≡ expression_level (expr.map-Expr Expr Expression expression_of y) = ap expression_of (sym (expr.roll-out-Expr x)) ∙ one_level y in
     ap value_text here
-      ∙ other_level y (λ w v is. other w v (sym (expr.roll-out-Expr x) ∙ ap expr.roll-Expr is ∙ form.rolls-Lit w v))
-      ∙ sym (ap expression_text here)
+    ∙ other_level y (λ w v is. other w v (sym (expr.roll-out-Expr x) ∙ ap expr.roll-Expr is ∙ form.rolls-Lit w v))
+    ∙ sym (ap expression_text here)

@@ -26,11 +26,7 @@ fn print_parameter(alloc: Global, out: &mut Text, parameter: &Param) -> Result<(
 
 /// Adds the parameters, with commas between.
 #[tactic(auto, using(crate::proofs::Views::views))]
-fn print_each_parameter(
-    alloc: Global,
-    out: &mut Text,
-    parameters: &[Param],
-) -> Result<(), Memory>
+fn print_each_parameter(alloc: Global, out: &mut Text, parameters: &[Param]) -> Result<(), Memory>
     ensures { OnOk result (out.new ≡ out.old ++ parameters_after_text [] (map parameter_of parameters.now)) }
 {
     let mut first = true;
@@ -141,7 +137,14 @@ fn print_entry(alloc: Global, out: &mut Text, entry: &Entry) -> Result<(), Memor
             conns,
         } => {
             let (parameters, connections) = (params.as_slice(), conns.as_slice());
-            print_instance(alloc, out, module.as_str(), parameters, name.as_str(), connections)?;
+            print_instance(
+                alloc,
+                out,
+                module.as_str(),
+                parameters,
+                name.as_str(),
+                connections,
+            )?;
             Ok(())
         }
     }

@@ -136,12 +136,7 @@ pub fn output(alloc: Global, ports: &mut List<Port>, width: u32, name: &str) -> 
 
 /// Adds a wire without an expression.
 #[tactic(auto, using(crate::proofs::Views::views))]
-pub fn wire(
-    alloc: Global,
-    entries: &mut List<Entry>,
-    width: u32,
-    name: &str,
-) -> Result<(), Memory>
+pub fn wire(alloc: Global, entries: &mut List<Entry>, width: u32, name: &str) -> Result<(), Memory>
     ensures { OnOk result (map entry_of entries.new ≡ map entry_of entries.old ++ wire width name.now ∷ []) }
 {
     let name = Text::of(alloc, name)?;
