@@ -6,6 +6,7 @@ use Rattle.std.specs.List.{list_any}
 use Rattle.std.specs.Str.{bytes_eq}
 use Rattle.cg_svspec.specs.Names.{is_among, first_repeat, first_repeat_after, Among, Differ}
 
+-- borrowed names
 abbrev Names : Type 0
 Names = List (Bor (List ℕ))
 
@@ -17,10 +18,12 @@ bytes_of = map (λ s. s.now)
 abbrev has : Names → List ℕ → Bool
 has keys n = list_any (λ k. bytes_eq n k.now) keys
 
+-- a name is among the keys exactly where the set has it
 among_keys : (keys : Names) (n : List ℕ) → is_among (bytes_of keys) n ≡ has keys n
 among_keys [] n = refl
 among_keys (k ∷ ks) n = λ i. nat_list_eq_equiv.symm k.now n i || among_keys ks n i
 
+-- `||` by a choice
 or_cond : (a b : Bool) → cond a true b ≡ (a || b)
 or_cond true b = refl
 or_cond false b = refl
@@ -67,10 +70,12 @@ seen_again names i d old whole added lt told was before =
     ∙ ap (first_repeat_after (bytes_of old)) (sym (here names i d lt))
     ∙ before
 
+-- where no name repeats, the first one was not seen, and no later one repeats
 none_at : (known : Bool) (n : List ℕ) (rest : Option (List ℕ)) → cond known (Some n) rest ≡ None → (known ≡ false) × (rest ≡ None)
 none_at true n rest none = cc
 none_at false n rest none = (refl, none)
 
+-- an `||` that is false has two false sides
 or_parts : (a b : Bool) → (a || b) ≡ false → (a ≡ false) × (b ≡ false)
 or_parts true b is = cc
 or_parts false b is = (refl, is)
