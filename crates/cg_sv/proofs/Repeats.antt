@@ -6,6 +6,7 @@ use Rattle.std.specs.List.{list_any}
 use Rattle.std.specs.Str.{bytes_eq}
 use Rattle.cg_svspec.specs.Names.{is_among, first_repeat, first_repeat_after, Among, Differ}
 
+-- borrowed names
 abbrev Names : Type 0
 Names = List (Bor (List ℕ))
 
@@ -17,10 +18,12 @@ bytes_of = map (λ s. s.now)
 abbrev has : Names → List ℕ → Bool
 has keys n = list_any (λ k. bytes_eq n k.now) keys
 
+-- a name is among the keys exactly where the set has it
 among_keys : (keys : Names) (n : List ℕ) → is_among (bytes_of keys) n ≡ has keys n
 among_keys [] n = refl
 among_keys (k ∷ ks) n = λ i. nat_list_eq_equiv.symm k.now n i || among_keys ks n i
 
+-- `||` by a choice
 or_cond : (a b : Bool) → cond a true b ≡ (a || b)
 or_cond true b = refl
 or_cond false b = refl
@@ -49,11 +52,11 @@ unseen names i d old new whole added lt told was inserted before =
     let n : List ℕ = (get_or names i d).now in
     let rest : List (List ℕ) = bytes_of (drop (i + 1) names) in
     let seen : (m : List ℕ) → is_among (bytes_of new) m ≡ is_among (n ∷ bytes_of old) m =
-        λ m. among_keys new m ∙ inserted m ∙ or_cond (bytes_eq n m) (has old m) ∙ ap (λ (t : Bool). bytes_eq n m || t) (sym (among_keys old m)) in
+    λ m. among_keys new m ∙ inserted m ∙ or_cond (bytes_eq n m) (has old m) ∙ ap (λ (t : Bool). bytes_eq n m || t) (sym (among_keys old m)) in
     same_seen (bytes_of new) (n ∷ bytes_of old) rest seen
-      ∙ sym (by_first old n rest false (not-true (has old n) (sym told ∙ was)))
-      ∙ ap (first_repeat_after (bytes_of old)) (sym (here names i d lt))
-      ∙ before
+    ∙ sym (by_first old n rest false (not-true (has old n) (sym told ∙ was)))
+    ∙ ap (first_repeat_after (bytes_of old)) (sym (here names i d lt))
+    ∙ before
 
 -- a name that was seen
 pub seen_again : (names : Names) (i : ℕ) (d : Bor (List ℕ)) (old : Names) (whole : Option (List ℕ)) (added : Bool) → i < length names
@@ -64,13 +67,15 @@ seen_again names i d old whole added lt told was before =
     let n : List ℕ = (get_or names i d).now in
     let rest : List (List ℕ) = bytes_of (drop (i + 1) names) in
     sym (by_first old n rest true (not-false (has old n) (sym told ∙ was)))
-      ∙ ap (first_repeat_after (bytes_of old)) (sym (here names i d lt))
-      ∙ before
+    ∙ ap (first_repeat_after (bytes_of old)) (sym (here names i d lt))
+    ∙ before
 
+-- where no name repeats, the first one was not seen, and no later one repeats
 none_at : (known : Bool) (n : List ℕ) (rest : Option (List ℕ)) → cond known (Some n) rest ≡ None → (known ≡ false) × (rest ≡ None)
 none_at true n rest none = cc
 none_at false n rest none = (refl, none)
 
+-- an `||` that is false has two false sides
 or_parts : (a b : Bool) → (a || b) ≡ false → (a ≡ false) × (b ≡ false)
 or_parts true b is = cc
 or_parts false b is = (refl, is)

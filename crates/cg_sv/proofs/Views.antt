@@ -15,6 +15,7 @@ one_level : (x : level.Expr-F Expr) → expression_of (expr.roll-Expr x) ≡ exp
 unfolding expression_of
 one_level x = expr.fold-roll-Expr Expression expression_level x
 
+-- what each form stands for
 pub of-Net : (n : List ℕ) → expression_of (form.Net n) ≡ net n
 of-Net n = ap expression_of (sym (form.rolls-Net n)) ∙ one_level (level.Net n)
 
@@ -45,7 +46,7 @@ of-Equal x y = ap expression_of (sym (form.rolls-Equal x y)) ∙ one_level (leve
 pub of-Pick : (c x y : Box Expr Global) → expression_of (form.Pick c x y) ≡ pick (expression_of c.value) (expression_of x.value) (expression_of y.value)
 of-Pick c x y = ap expression_of (sym (form.rolls-Pick c x y)) ∙ one_level (level.Pick c x y)
 
--- what each form stands for, and texts nested to the right
+-- all of these, and lists nested to the right
 pub ruleset views = (of-Net, of-Cut, of-Lit, of-Cat, of-Not, of-Any, of-And, of-Or, of-Equal, of-Pick, append_assoc)
 
 -- a value that is no literal, at one level
@@ -68,5 +69,5 @@ value_text-other x other =
     let y = expr.out-Expr x in
     let here : expression_of x ≡ expression_level (expr.map-Expr Expr Expression expression_of y) = ap expression_of (sym (expr.roll-out-Expr x)) ∙ one_level y in
     ap value_text here
-      ∙ other_level y (λ w v is. other w v (sym (expr.roll-out-Expr x) ∙ ap expr.roll-Expr is ∙ form.rolls-Lit w v))
-      ∙ sym (ap expression_text here)
+    ∙ other_level y (λ w v is. other w v (sym (expr.roll-out-Expr x) ∙ ap expr.roll-Expr is ∙ form.rolls-Lit w v))
+    ∙ sym (ap expression_text here)

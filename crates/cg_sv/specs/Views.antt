@@ -35,16 +35,19 @@ parameter n x = record { name = n; value = x }
 abbrev pub connection : List ℕ → tree.Expression → tree.Connection
 connection n x = record { name = n; value = x }
 
--- the port, parameter, connection, entry or module for which a value of the program stands
+-- the port for which a value of the program stands
 abbrev pub port_of : port.Port → tree.Port
 port_of p = record { input = p.input; width = p.width; name = p.name }
 
+-- the parameter for which a value of the program stands
 abbrev pub parameter_of : param.Param → tree.Parameter
 parameter_of p = parameter p.name (expression_of p.value)
 
+-- the connection for which a value of the program stands
 abbrev pub connection_of : conn.Conn → tree.Connection
 connection_of c = connection c.name (expression_of c.value)
 
+-- the entry for which a value of the program stands: a wire with an expression is driven by it
 abbrev pub entry_of : entry.Entry → tree.Entry
 entry_of (entries.Wire w n None) = tree.wire w n
 entry_of (entries.Wire w n (Some x)) = tree.drive w n (expression_of x)

@@ -26,12 +26,9 @@ fn print_parameter(alloc: Global, out: &mut Text, parameter: &Param) -> Result<(
 
 /// Adds the parameters, with commas between.
 #[tactic(auto, using(crate::proofs::Views::views))]
-fn print_each_parameter(
-    alloc: Global,
-    out: &mut Text,
-    parameters: &[Param],
-) -> Result<(), Memory>
-    ensures { OnOk result (out.new ≡ out.old ++ parameters_after_text [] (map parameter_of parameters.now)) }
+fn print_each_parameter(alloc: Global, out: &mut Text, parameters: &[Param]) -> Result<(), Memory>
+    ensures { OnOk result (out.new
+        ≡ out.old ++ parameters_after_text [] (map parameter_of parameters.now)) }
 {
     let mut first = true;
     for parameter in parameters {
@@ -74,7 +71,8 @@ fn print_connection(alloc: Global, out: &mut Text, connection: &Conn) -> Result<
 /// Adds the connections, one on a line, with commas between.
 #[tactic(auto, using(crate::proofs::Views::views))]
 fn print_connections(alloc: Global, out: &mut Text, connections: &[Conn]) -> Result<(), Memory>
-    ensures { OnOk result (out.new ≡ out.old ++ connections_text [] (map connection_of connections.now)) }
+    ensures { OnOk result (out.new
+        ≡ out.old ++ connections_text [] (map connection_of connections.now)) }
 {
     let mut first = true;
     for connection in connections {
@@ -97,7 +95,9 @@ fn print_instance(
     name: &str,
     connections: &[Conn],
 ) -> Result<(), Memory>
-    ensures { OnOk result (out.new ≡ out.old ++ entry_text (inst «module».now (map parameter_of parameters.now) name.now (map connection_of connections.now))) }
+    ensures { OnOk result (out.new
+        ≡ out.old
+        ++ entry_text (inst «module».now (map parameter_of parameters.now) name.now (map connection_of connections.now))) }
 {
     out.add(module)?;
     out.add(" ")?;
@@ -141,7 +141,14 @@ fn print_entry(alloc: Global, out: &mut Text, entry: &Entry) -> Result<(), Memor
             conns,
         } => {
             let (parameters, connections) = (params.as_slice(), conns.as_slice());
-            print_instance(alloc, out, module.as_str(), parameters, name.as_str(), connections)?;
+            print_instance(
+                alloc,
+                out,
+                module.as_str(),
+                parameters,
+                name.as_str(),
+                connections,
+            )?;
             Ok(())
         }
     }

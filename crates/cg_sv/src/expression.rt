@@ -21,7 +21,9 @@ pub fn print_decimal(alloc: Global, out: &mut Text, number: u32) -> Result<(), M
 /// Adds a net with the first and the last of the bits that are meant.
 #[tactic(auto, using(crate::proofs::Views::views))]
 fn print_cut(alloc: Global, out: &mut Text, net: &str, msb: u32, lsb: u32) -> Result<(), Memory>
-    ensures { OnOk result (out.new ≡ out.old ++ (net.now ++ (codes "[" ++ (decimal msb ++ (codes ":" ++ (decimal lsb ++ codes "]")))))) }
+    ensures { OnOk result (out.new
+        ≡ out.old ++ (net.now ++ (codes "[" ++ (decimal msb ++ (codes ":" ++ (decimal lsb
+        ++ codes "]")))))) }
 {
     let cut = format!(in alloc; "{net}[{msb}:{lsb}]")?;
     out.add(&cut)?;
@@ -31,7 +33,8 @@ fn print_cut(alloc: Global, out: &mut Text, net: &str, msb: u32, lsb: u32) -> Re
 /// Adds a literal: its width in decimal, and its value in lower-case hexadecimal.
 #[tactic(auto, using(crate::proofs::Views::views))]
 fn print_literal(alloc: Global, out: &mut Text, width: u32, value: u64) -> Result<(), Memory>
-    ensures { OnOk result (out.new ≡ out.old ++ (decimal width ++ (codes "'h" ++ digits 16 false value))) }
+    ensures { OnOk result (out.new
+        ≡ out.old ++ (decimal width ++ (codes "'h" ++ digits 16 false value))) }
 {
     let literal = format!(in alloc; "{width}'h{value:x}")?;
     out.add(&literal)?;
@@ -105,7 +108,8 @@ fn print_between(
     expr: &Expr,
     after: &str,
 ) -> Result<(), Memory>
-    ensures { OnOk result (out.new ≡ out.old ++ (before.now ++ (expression_text (expression_of expr.now) ++ after.now))) }
+    ensures { OnOk result (out.new
+        ≡ out.old ++ (before.now ++ (expression_text (expression_of expr.now) ++ after.now))) }
 {
     out.add(before)?;
     print_expression(alloc, out, expr)?;
@@ -117,7 +121,8 @@ fn print_between(
 #[cycle(printing)]
 #[tactic(auto, using(crate::proofs::Views::views))]
 fn print_parts(alloc: Global, out: &mut Text, parts: &[Expr]) -> Result<(), Memory>
-    ensures { OnOk result (out.new ≡ out.old ++ parts_text [] (expressions (map expression_of parts.now))) }
+    ensures { OnOk result (out.new
+        ≡ out.old ++ parts_text [] (expressions (map expression_of parts.now))) }
 {
     let mut first = true;
     for part in parts {

@@ -1,6 +1,7 @@
 //! Why a module is not made.
 
-ghost use Rattle.std.specs.Prelude.{◌≡◌};
+ghost use Rattle.std.specs.Prelude.{◌≡◌, Some};
+ghost use Rattle.cg_sv.specs.Clashes.{fault_text};
 ghost use Rattle.cg_sv.specs.declared.fault.SvRegFault.TheVariants as SvRegFault;
 
 use cg_base::{Memory, Text};
@@ -16,6 +17,8 @@ pub enum SvRegFault {
 }
 
 impl fmt::Display for SvRegFault {
+    ghost output = { λ fault. Some (fault_text fault) };
+
     fn fmt<W: fmt::Write>(&self, f: &mut fmt::Formatter<W>) -> fmt::Result {
         match self {
             SvRegFault::Clash { name } => {

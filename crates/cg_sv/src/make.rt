@@ -1,10 +1,10 @@
 //! Makers of expressions, ports and entries, for the writers of modules.
 //!
 //! Each has a contract over what its result stands for, so that a writer's proof is a sum of lists. Names are taken as
-//! `&str` and copied. A maker that adds to a list adds at its end; where memory is short the list may stay as it was,
+//! `&str` and copied. A maker that adds to a list adds at its end. Where memory is not found, the list stays as it was,
 //! and what was passed by value is dropped.
 
-ghost use Rattle.std.specs.Prelude.{◌≡◌, ◌++◌, [], ◌∷◌, IfOk, OnOk, map};
+ghost use Rattle.std.specs.Prelude.{◌≡◌, ◌++◌, [], ◌∷◌, IfOk, OnOk, OnErr, map};
 ghost use Rattle.cg_svspec.specs.Tree.{net, cut, lit, cat, inv, any, and, or, equal, pick, expressions, wire, drive, assign, inst};
 ghost use Rattle.cg_svspec.specs.Register.{input_port, output_port};
 ghost use Rattle.cg_sv.specs.Views.{expression_of, port_of, parameter_of, connection_of, entry_of, parameter, connection};
@@ -88,7 +88,8 @@ pub fn or(alloc: Global, left: Expr, right: Expr) -> Result<Expr, Memory>
 /// Whether two values are equal.
 #[tactic(auto, using(crate::proofs::Views::views))]
 pub fn equal(alloc: Global, left: Expr, right: Expr) -> Result<Expr, Memory>
-    ensures { IfOk result (λ x. expression_of x ≡ equal (expression_of left) (expression_of right)) }
+    ensures { IfOk result (λ x. expression_of x
+        ≡ equal (expression_of left) (expression_of right)) }
 {
     let left = Box::new(alloc, left)?;
     let right = Box::new(alloc, right)?;
@@ -98,7 +99,8 @@ pub fn equal(alloc: Global, left: Expr, right: Expr) -> Result<Expr, Memory>
 /// `one` where the condition is 1, and `zero` where it is 0.
 #[tactic(auto, using(crate::proofs::Views::views))]
 pub fn pick(alloc: Global, condition: Expr, one: Expr, zero: Expr) -> Result<Expr, Memory>
-    ensures { IfOk result (λ x. expression_of x ≡ pick (expression_of condition) (expression_of one) (expression_of zero)) }
+    ensures { IfOk result (λ x. expression_of x
+        ≡ pick (expression_of condition) (expression_of one) (expression_of zero)) }
 {
     let condition = Box::new(alloc, condition)?;
     let one = Box::new(alloc, one)?;
@@ -109,7 +111,9 @@ pub fn pick(alloc: Global, condition: Expr, one: Expr, zero: Expr) -> Result<Exp
 /// Adds an input of a module.
 #[tactic(auto, using(crate::proofs::Views::views))]
 pub fn input(alloc: Global, ports: &mut List<Port>, width: u32, name: &str) -> Result<(), Memory>
-    ensures { OnOk result (map port_of ports.new ≡ map port_of ports.old ++ input_port width name.now ∷ []) }
+    ensures ok { OnOk result (map port_of ports.new
+        ≡ map port_of ports.old ++ input_port width name.now ∷ []) }
+    ensures err { OnErr result (ports.new ≡ ports.old) }
 {
     let name = Text::of(alloc, name)?;
     ports.push(Port {
@@ -123,7 +127,9 @@ pub fn input(alloc: Global, ports: &mut List<Port>, width: u32, name: &str) -> R
 /// Adds an output of a module.
 #[tactic(auto, using(crate::proofs::Views::views))]
 pub fn output(alloc: Global, ports: &mut List<Port>, width: u32, name: &str) -> Result<(), Memory>
-    ensures { OnOk result (map port_of ports.new ≡ map port_of ports.old ++ output_port width name.now ∷ []) }
+    ensures ok { OnOk result (map port_of ports.new
+        ≡ map port_of ports.old ++ output_port width name.now ∷ []) }
+    ensures err { OnErr result (ports.new ≡ ports.old) }
 {
     let name = Text::of(alloc, name)?;
     ports.push(Port {
@@ -136,13 +142,10 @@ pub fn output(alloc: Global, ports: &mut List<Port>, width: u32, name: &str) -> 
 
 /// Adds a wire without an expression.
 #[tactic(auto, using(crate::proofs::Views::views))]
-pub fn wire(
-    alloc: Global,
-    entries: &mut List<Entry>,
-    width: u32,
-    name: &str,
-) -> Result<(), Memory>
-    ensures { OnOk result (map entry_of entries.new ≡ map entry_of entries.old ++ wire width name.now ∷ []) }
+pub fn wire(alloc: Global, entries: &mut List<Entry>, width: u32, name: &str) -> Result<(), Memory>
+    ensures ok { OnOk result (map entry_of entries.new
+        ≡ map entry_of entries.old ++ wire width name.now ∷ []) }
+    ensures err { OnErr result (entries.new ≡ entries.old) }
 {
     let name = Text::of(alloc, name)?;
     entries.push(Entry::Wire {
@@ -162,7 +165,9 @@ pub fn drive(
     name: &str,
     value: Expr,
 ) -> Result<(), Memory>
-    ensures { OnOk result (map entry_of entries.new ≡ map entry_of entries.old ++ drive width name.now (expression_of value) ∷ []) }
+    ensures ok { OnOk result (map entry_of entries.new
+        ≡ map entry_of entries.old ++ drive width name.now (expression_of value) ∷ []) }
+    ensures err { OnErr result (entries.new ≡ entries.old) }
 {
     let name = Text::of(alloc, name)?;
     entries.push(Entry::Wire {
@@ -181,7 +186,9 @@ pub fn assign(
     name: &str,
     value: Expr,
 ) -> Result<(), Memory>
-    ensures { OnOk result (map entry_of entries.new ≡ map entry_of entries.old ++ assign name.now (expression_of value) ∷ []) }
+    ensures ok { OnOk result (map entry_of entries.new
+        ≡ map entry_of entries.old ++ assign name.now (expression_of value) ∷ []) }
+    ensures err { OnErr result (entries.new ≡ entries.old) }
 {
     let name = Text::of(alloc, name)?;
     entries.push(Entry::Assign { name, value })?;
@@ -198,7 +205,10 @@ pub fn instance(
     name: &str,
     conns: List<Conn>,
 ) -> Result<(), Memory>
-    ensures { OnOk result (map entry_of entries.new ≡ map entry_of entries.old ++ inst «module».now (map parameter_of params) name.now (map connection_of conns) ∷ []) }
+    ensures ok { OnOk result (map entry_of entries.new
+        ≡ map entry_of entries.old
+        ++ inst «module».now (map parameter_of params) name.now (map connection_of conns) ∷ []) }
+    ensures err { OnErr result (entries.new ≡ entries.old) }
 {
     let module = Text::of(alloc, module)?;
     let name = Text::of(alloc, name)?;
@@ -219,7 +229,9 @@ pub fn parameter(
     name: &str,
     value: Expr,
 ) -> Result<(), Memory>
-    ensures { OnOk result (map parameter_of params.new ≡ map parameter_of params.old ++ parameter name.now (expression_of value) ∷ []) }
+    ensures ok { OnOk result (map parameter_of params.new
+        ≡ map parameter_of params.old ++ parameter name.now (expression_of value) ∷ []) }
+    ensures err { OnErr result (params.new ≡ params.old) }
 {
     let name = Text::of(alloc, name)?;
     params.push(Param { name, value })?;
@@ -234,7 +246,9 @@ pub fn connection(
     name: &str,
     value: Expr,
 ) -> Result<(), Memory>
-    ensures { OnOk result (map connection_of conns.new ≡ map connection_of conns.old ++ connection name.now (expression_of value) ∷ []) }
+    ensures ok { OnOk result (map connection_of conns.new
+        ≡ map connection_of conns.old ++ connection name.now (expression_of value) ∷ []) }
+    ensures err { OnErr result (conns.new ≡ conns.old) }
 {
     let name = Text::of(alloc, name)?;
     conns.push(Conn { name, value })?;

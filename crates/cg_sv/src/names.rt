@@ -14,7 +14,8 @@ use std::collections::HashSet;
 
 /// Adds the names of the ports.
 fn add_port_names<'a>(names: &mut Vec<&'a str>, ports: &'a [Port]) -> Result<(), Memory>
-    ensures { OnOk result (map (λ s. s.now) names.new.items ≡ map (λ s. s.now) names.old.items ++ port_names (map port_of ports.entry.now)) }
+    ensures { OnOk result (map (λ s. s.now) names.new.items
+        ≡ map (λ s. s.now) names.old.items ++ port_names (map port_of ports.entry.now)) }
 {
     for port in ports {
         names.push(port.name.as_str())?;
@@ -24,7 +25,8 @@ fn add_port_names<'a>(names: &mut Vec<&'a str>, ports: &'a [Port]) -> Result<(),
 
 /// Adds the names of the wires and of the instances. An assigned name is declared elsewhere.
 fn add_entry_names<'a>(names: &mut Vec<&'a str>, entries: &'a [Entry]) -> Result<(), Memory>
-    ensures { OnOk result (map (λ s. s.now) names.new.items ≡ map (λ s. s.now) names.old.items ++ entry_names (map entry_of entries.entry.now)) }
+    ensures { OnOk result (map (λ s. s.now) names.new.items
+        ≡ map (λ s. s.now) names.old.items ++ entry_names (map entry_of entries.entry.now)) }
 {
     for entry in entries {
         match entry {
@@ -38,7 +40,8 @@ fn add_entry_names<'a>(names: &mut Vec<&'a str>, entries: &'a [Entry]) -> Result
 
 /// The names that a module declares, in text order: its ports, wires and instances.
 fn declared_names(alloc: Global, module: &Module) -> Result<Vec<&str>, Memory>
-    ensures { IfOk result (λ names. map (λ s. s.now) names.items ≡ module_names (module_of «module».entry.now)) }
+    ensures { IfOk result (λ names. map (λ s. s.now) names.items
+        ≡ module_names (module_of «module».entry.now)) }
 {
     let mut names = Vec::new(alloc);
     add_port_names(&mut names, module.ports.as_slice())?;
@@ -48,7 +51,8 @@ fn declared_names(alloc: Global, module: &Module) -> Result<Vec<&str>, Memory>
 
 /// The first of the names that repeats an earlier one.
 pub fn first_repeat<'a>(alloc: Global, names: &[&'a str]) -> Result<Option<&'a str>, Memory>
-    ensures { IfOk result (λ found. option_copied found ≡ first_repeat (map (λ s. s.now) names.now)) }
+    ensures { IfOk result (λ found. option_copied found
+        ≡ first_repeat (map (λ s. s.now) names.now)) }
 {
     let mut seen = HashSet::new(alloc);
     for name in names {

@@ -73,7 +73,8 @@ fn high(alloc: Global) -> Result<Expr, Memory>
 }
 
 fn next(alloc: Global) -> Result<Expr, Memory>
-    ensures { IfOk result (λ x. expression_of x ≡ pick example_condition example_high example_kept) }
+    ensures { IfOk result (λ x. expression_of x
+        ≡ pick example_condition example_high example_kept) }
 {
     let condition = condition(alloc)?;
     let high = high(alloc)?;
@@ -106,7 +107,8 @@ fn parameters(alloc: Global) -> Result<List<Param>, Memory>
 }
 
 fn add_flop(alloc: Global, entries: &mut List<Entry>) -> Result<(), Memory>
-    ensures { OnOk result (map entry_of entries.new ≡ map entry_of entries.old ++ example_flop ∷ []) }
+    ensures { OnOk result (map entry_of entries.new
+        ≡ map entry_of entries.old ++ example_flop ∷ []) }
 {
     let params = parameters(alloc)?;
     let conns = connections(alloc)?;
@@ -115,7 +117,8 @@ fn add_flop(alloc: Global, entries: &mut List<Entry>) -> Result<(), Memory>
 }
 
 fn add_plain(alloc: Global, entries: &mut List<Entry>) -> Result<(), Memory>
-    ensures { OnOk result (map entry_of entries.new ≡ map entry_of entries.old ++ example_plain ∷ []) }
+    ensures { OnOk result (map entry_of entries.new
+        ≡ map entry_of entries.old ++ example_plain ∷ []) }
 {
     let mut conns = List::new(alloc);
     let some = make::net(alloc, "some")?;

@@ -48,7 +48,10 @@ pub enum Entry {
         value: Option<Expr>,
     },
     /// The assignment of a net that is declared elsewhere.
-    Assign { name: Text, value: Expr },
+    Assign {
+        name: Text,
+        value: Expr,
+    },
     /// An instance of the module `module`.
     Inst {
         module: Text,

@@ -7,4 +7,4 @@ use Rattle.cg_sv.proofs.entries.print_connections.Given as goal
 abbrev pub invariant-loop-connection : goal.invariant-loop-connection
 invariant-loop-connection l =
     l.out ++ connections_text (cond l.first [] (codes ",\n")) (map connection_of (drop l.connection-index l.connections))
-        ≡ l.fn.out ++ connections_text [] (map connection_of l.connections)
+    ≡ l.fn.out ++ connections_text [] (map connection_of l.connections)

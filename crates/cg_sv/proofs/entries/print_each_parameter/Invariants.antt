@@ -7,4 +7,4 @@ use Rattle.cg_sv.proofs.entries.print_each_parameter.Given as goal
 abbrev pub invariant-loop-parameter : goal.invariant-loop-parameter
 invariant-loop-parameter l =
     l.out ++ parameters_after_text (cond l.first [] (codes ", ")) (map parameter_of (drop l.parameter-index l.parameters))
-        ≡ l.fn.out ++ parameters_after_text [] (map parameter_of l.parameters)
+    ≡ l.fn.out ++ parameters_after_text [] (map parameter_of l.parameters)

@@ -8,4 +8,4 @@ use Rattle.cg_sv.proofs.expression.+printing.Given as goal
 abbrev pub invariant-print_parts-loop-part : goal.invariant-print_parts-loop-part
 invariant-print_parts-loop-part l =
     l.out ++ parts_text (cond l.first [] (codes ", ")) (expressions (map expression_of (drop l.part-index l.parts)))
-        ≡ l.fn.out ++ parts_text [] (expressions (map expression_of l.parts))
+    ≡ l.fn.out ++ parts_text [] (expressions (map expression_of l.parts))

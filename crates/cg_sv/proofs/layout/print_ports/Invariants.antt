@@ -7,4 +7,4 @@ use Rattle.cg_sv.proofs.layout.print_ports.Given as goal
 abbrev pub invariant-loop-port : goal.invariant-loop-port
 invariant-loop-port l =
     l.out ++ ports_text (cond l.first [] (codes ",\n")) (map port_of (drop l.port-index l.ports))
-        ≡ l.fn.out ++ ports_text [] (map port_of l.ports)
+    ≡ l.fn.out ++ ports_text [] (map port_of l.ports)

@@ -7,4 +7,4 @@ use Rattle.cg_sv.proofs.names.add_entry_names.Given as goal
 abbrev pub invariant-loop-entry : goal.invariant-loop-entry
 invariant-loop-entry l =
     map (λ s. s.now) l.names.items ++ entry_names (map entry_of (drop l.entry-index l.entries))
-        ≡ map (λ s. s.now) l.fn.names.items ++ entry_names (map entry_of l.entries)
+    ≡ map (λ s. s.now) l.fn.names.items ++ entry_names (map entry_of l.entries)

@@ -7,4 +7,4 @@ use Rattle.cg_sv.proofs.names.add_port_names.Given as goal
 abbrev pub invariant-loop-port : goal.invariant-loop-port
 invariant-loop-port l =
     map (λ s. s.now) l.names.items ++ port_names (map port_of (drop l.port-index l.ports))
-        ≡ map (λ s. s.now) l.fn.names.items ++ port_names (map port_of l.ports)
+    ≡ map (λ s. s.now) l.fn.names.items ++ port_names (map port_of l.ports)

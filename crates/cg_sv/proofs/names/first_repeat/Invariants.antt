@@ -6,4 +6,4 @@ use Rattle.cg_sv.proofs.names.first_repeat.Given as goal
 abbrev pub invariant-loop-name : goal.invariant-loop-name
 invariant-loop-name l =
     first_repeat_after (map (λ s. s.now) l.seen.keys) (map (λ s. s.now) (drop l.name-index l.names))
-        ≡ first_repeat (map (λ s. s.now) l.names)
+    ≡ first_repeat (map (λ s. s.now) l.names)
