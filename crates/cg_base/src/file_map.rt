@@ -1,8 +1,9 @@
-ghost use Rattle.std.specs.Prelude.{◌≡◌, OnOk, OnErr};
+ghost use Rattle.std.specs.Prelude.{◌≡◌, OnOk, OnErr, Some};
 ghost use Rattle.std.specs.Option.{option_copied};
 ghost use Rattle.std.specs.FinMap as map;
+ghost use Rattle.cg_base.specs.Outside.{ReadsFile, ReadInto};
 
-use crate::{List, Memory};
+use crate::{Found, List, Memory, StoreFault};
 use std::alloc::Global;
 use std::collections::BTreeMap;
 use std::marker::Model;
@@ -44,6 +45,27 @@ impl FileMap {
             Some(bytes) => Some(bytes.as_slice()),
             None => None,
         }
+    }
+
+    /// Appends the bytes of a file to `into`, if they are at most `limit`.
+    pub fn read(
+        &self,
+        name: &str,
+        limit: usize,
+        into: &mut Vec<u8>,
+    ) -> Result<Found, StoreFault>
+        ensures found { ReadsFile (Some self.now) name.now limit result into.old.items into.new.items }
+        ensures into { ReadInto result into.old.items into.new.items }
+        ensures memory { OnErr result (result ≡ Err StoreFault.Memory) }
+    {
+        let Some(bytes) = self.get(name) else {
+            return Ok(Found::Absent);
+        };
+        if bytes.len() > limit {
+            return Ok(Found::Large);
+        }
+        into.extend_from_slice(bytes)?;
+        Ok(Found::Yes)
     }
 
     /// Sets a file, in the place of one with its name. On `Memory` the map is as it was, and the

@@ -14,12 +14,14 @@
 
 mod arithmetic;
 mod calls;
+mod calm;
 mod file_map;
 mod list;
 mod mem_store;
 mod mem_streams;
 mod memory;
 mod outside;
+mod rest;
 mod steps;
 mod system;
 mod text;
@@ -27,8 +29,9 @@ mod text;
 pub use arithmetic::{align_up, mask};
 pub use file_map::FileMap;
 pub use list::List;
-pub use mem_store::{CalmStore, MemStore};
-pub use mem_streams::{CalmSink, CalmSource, MemSink, MemSource};
+pub use calm::{CalmSink, CalmSource, CalmStore};
+pub use mem_store::MemStore;
+pub use mem_streams::{MemSink, MemSource};
 pub use memory::Memory;
 pub use outside::{Failed, Found, Gate, OpenGate, Sink, SinkFault, Source, Store, StoreFault};
 pub use steps::Steps;

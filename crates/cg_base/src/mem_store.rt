@@ -1,34 +1,13 @@
-ghost use Rattle.std.specs.Prelude.{◌≡◌, OnOk, OnErr, IsErrOf, IfOk, Some};
+ghost use Rattle.std.specs.Prelude.{◌≡◌, OnOk, OnErr, IsErrOf, Some};
 ghost use Rattle.std.specs.Option.{option_copied};
 ghost use Rattle.std.specs.FinMap as map;
-ghost use Rattle.cg_base.specs.Outside.{HasCause, ReadsFile, ReadInto, OnlyAt, written, removed};
+ghost use Rattle.cg_base.specs.Outside.{HasCause, ReadsFile, ReadInto};
 ghost use Rattle.cg_base.specs.Calls.{none_made, Counts};
 
 use crate::calls::Calls;
 use crate::{FileMap, Found, List, Memory, Store, StoreFault};
 use std::alloc::Global;
 use std::marker::Model;
-
-// Appends the file to `into` if it is within the limit.
-fn read_from(
-    files: &FileMap,
-    name: &str,
-    limit: usize,
-    into: &mut Vec<u8>,
-) -> Result<Found, StoreFault>
-    ensures found { ReadsFile (Some files.now) name.now limit result into.old.items into.new.items }
-    ensures into { ReadInto result into.old.items into.new.items }
-    ensures memory { OnErr result (result ≡ Err StoreFault.Memory) }
-{
-    let Some(bytes) = files.get(name) else {
-        return Ok(Found::Absent);
-    };
-    if bytes.len() > limit {
-        return Ok(Found::Large);
-    }
-    into.extend_from_slice(bytes)?;
-    Ok(Found::Yes)
-}
 
 /// A store in memory that fails at the calls that it is told.
 ///
@@ -101,7 +80,7 @@ impl Store for MemStore {
         if self.reads.next_fails() {
             return Err(StoreFault::Failed);
         }
-        read_from(&self.files, name, limit, into)
+        self.files.read(name, limit, into)
     }
 
     fn write(&mut self, name: &str, bytes: &[u8]) -> Result<(), StoreFault>
@@ -128,63 +107,6 @@ impl Store for MemStore {
         if self.changes.next_fails() {
             return Err(StoreFault::Failed);
         }
-        self.files.remove(name);
-        Ok(())
-    }
-}
-
-/// A store in memory that never fails. Its files are told.
-#[derive(Drop)]
-pub struct CalmStore {
-    files: FileMap,
-}
-
-impl Model for CalmStore {
-    ghost use Rattle.cg_base.specs.Outside.{Files};
-    ghost use Rattle.cg_base.specs.FileMap.{files_code};
-
-    ghost Value = { Files };
-
-    ghost coded = { files_code };
-
-    ghost view = { λ s. s.files };
-}
-
-impl CalmStore {
-    /// A store without files.
-    pub fn new(alloc: Global) -> CalmStore
-        ensures { result ≡ map.empty }
-    {
-        CalmStore {
-            files: FileMap::new(alloc),
-        }
-    }
-
-    /// The bytes of a file; `None` exactly where the name is not in the store.
-    pub fn file(&self, name: &str) -> Option<&[u8]>
-        ensures { option_copied result ≡ map.get self.now name.now }
-    {
-        self.files.get(name)
-    }
-}
-
-impl Store for CalmStore {
-    ghost content = { λ s. Some s };
-
-    ghost read_faults = { λ _. 0 };
-
-    ghost change_faults = { λ _. 0 };
-
-    fn read(&mut self, name: &str, limit: usize, into: &mut Vec<u8>) -> Result<Found, StoreFault> {
-        read_from(&self.files, name, limit, into)
-    }
-
-    fn write(&mut self, name: &str, bytes: &[u8]) -> Result<(), StoreFault> {
-        self.files.write(name, bytes)?;
-        Ok(())
-    }
-
-    fn remove(&mut self, name: &str) -> Result<(), StoreFault> {
         self.files.remove(name);
         Ok(())
     }

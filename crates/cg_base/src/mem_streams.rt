@@ -1,59 +1,12 @@
-ghost use Rattle.std.specs.Prelude.{◌≡◌, ◌≤◌, ◌<◌, ℕ, List, Some, [], ◌++◌, OnOk, OnErr, IfOk, IsErr, IsErrOf, length, take, drop, min};
-ghost use Rattle.cg_base.specs.Outside.{HasCause, Taken, TookPrefix, put};
+ghost use Rattle.std.specs.Prelude.{◌≡◌, ◌≤◌, ◌<◌, ℕ, List, Some, [], ◌++◌, OnOk, OnErr, IfOk, IsErr, IsErrOf, length, take};
+ghost use Rattle.cg_base.specs.Outside.{HasCause, Taken, TookPrefix};
 ghost use Rattle.cg_base.specs.Calls.{none_made, Counts};
 
 use crate::calls::Calls;
+use crate::rest::Rest;
 use crate::{Failed, List, Sink, SinkFault, Source};
 use std::alloc::Global;
 use std::marker::Model;
-
-// Copies as much as fits, and tells how much that is.
-fn copy_front(from: &[u8], to: &mut [u8]) -> usize
-    ensures count { result ≡ min (length from.now) (length to.old) }
-    ensures len { length to.new ≡ length to.old }
-    ensures front { take result to.new ≡ take result from.now }
-{
-    let n = from.len().min(to.len());
-    to[..n].copy_from_slice(&from[..n]);
-    n
-}
-
-// Bytes that are given from the front.
-#[derive(Drop)]
-struct Rest {
-    bytes: List<u8>,
-    given: usize,
-}
-
-impl Model for Rest {
-    ghost use Rattle.std.specs.Prelude.{List, ℕ, drop, length, ◌≤◌};
-
-    ghost Value = { List ℕ };
-
-    ghost view = { λ r. drop r.given r.bytes };
-
-    ghost invariant = { λ r. r.given ≤ length r.bytes };
-}
-
-impl Rest {
-    fn new(bytes: List<u8>) -> Rest
-        ensures { result ≡ bytes }
-    {
-        Rest { bytes, given: 0 }
-    }
-
-    // Gives the next bytes, as many as there are and fit into `buf`.
-    fn give(&mut self, buf: &mut [u8]) -> usize
-        ensures count { result ≡ min (length self.old) (length buf.old) }
-        ensures len { length buf.new ≡ length buf.old }
-        ensures given { self.old ≡ take result buf.new ++ self.new }
-    {
-        let (_, rest) = self.bytes.as_slice().split_at(self.given);
-        let n = copy_front(rest, buf);
-        self.given += n;
-        n
-    }
-}
 
 /// A source in memory that fails at the calls that it is told.
 ///
@@ -102,41 +55,6 @@ impl Source for MemSource {
         if self.calls.next_fails() {
             return Err(Failed);
         }
-        Ok(self.rest.give(buf))
-    }
-}
-
-/// A source in memory that never fails. The bytes that are left are told.
-#[derive(Drop)]
-pub struct CalmSource {
-    rest: Rest,
-}
-
-impl Model for CalmSource {
-    ghost use Rattle.std.specs.Prelude.{List, ℕ};
-
-    ghost Value = { List ℕ };
-
-    ghost view = { λ s. s.rest };
-}
-
-impl CalmSource {
-    /// A source that has these bytes left.
-    pub fn new(bytes: List<u8>) -> CalmSource
-        ensures { result ≡ bytes }
-    {
-        CalmSource {
-            rest: Rest::new(bytes),
-        }
-    }
-}
-
-impl Source for CalmSource {
-    ghost left = { λ s. Some s };
-
-    ghost faults = { λ _. 0 };
-
-    fn fill(&mut self, buf: &mut [u8]) -> Result<usize, Failed> {
         Ok(self.rest.give(buf))
     }
 }
@@ -193,49 +111,6 @@ impl Sink for MemSink {
         if self.calls.next_fails() {
             return Err(SinkFault::Failed);
         }
-        self.held.add(bytes)?;
-        Ok(())
-    }
-}
-
-/// A sink in memory that never fails. The bytes that it took are told.
-#[derive(Drop)]
-pub struct CalmSink {
-    held: List<u8>,
-}
-
-impl Model for CalmSink {
-    ghost use Rattle.std.specs.Prelude.{List, ℕ};
-
-    ghost Value = { List ℕ };
-
-    ghost view = { λ s. s.held };
-}
-
-impl CalmSink {
-    /// A sink that has taken nothing.
-    pub fn new(alloc: Global) -> CalmSink
-        ensures { result ≡ [] }
-    {
-        CalmSink {
-            held: List::new(alloc),
-        }
-    }
-
-    /// The bytes that the sink took.
-    pub fn bytes(&self) -> &[u8]
-        ensures { result.now ≡ self.now }
-    {
-        self.held.as_slice()
-    }
-}
-
-impl Sink for CalmSink {
-    ghost held = { λ s. Some s };
-
-    ghost faults = { λ _. 0 };
-
-    fn put(&mut self, bytes: &[u8]) -> Result<(), SinkFault> {
         self.held.add(bytes)?;
         Ok(())
     }

@@ -18,17 +18,17 @@ record Tells (r : Ordering) (smaller alike : Type 0) : Type 0 where
 -- one comparison and then another tells the lexicographic order
 tells_then : (r s : Ordering) {L E M F : Type 0} → Tells r L E → Tells s M F → Tells (ordering_then r s) (FirstThen L E M) (E × F)
 tells_then Less s first second = record {
-    less = (λ e. inl (first.less.0 refl), λ e. refl);
-    equal = (λ e. cc, λ both. let x = first.equal.1 both.0 in cc)
-  }
+  less = (λ e. inl (first.less.0 refl), λ e. refl);
+  equal = (λ e. cc, λ both. let x = first.equal.1 both.0 in cc);
+}
 tells_then Equal s first second = record {
-    less = (λ e. inr (first.equal.0 refl, second.less.0 e), λ e. elim e [ inl l ↦ (let x = first.less.1 l in cc) | inr both ↦ second.less.1 both.1 ]);
-    equal = (λ e. (first.equal.0 refl, second.equal.0 e), λ both. second.equal.1 both.1)
-  }
+  less = (λ e. inr (first.equal.0 refl, second.less.0 e), λ e. elim e [ inl l ↦ (let x = first.less.1 l in cc) | inr both ↦ second.less.1 both.1 ]);
+  equal = (λ e. (first.equal.0 refl, second.equal.0 e), λ both. second.equal.1 both.1);
+}
 tells_then Greater s first second = record {
-    less = (λ e. cc, λ e. elim e [ inl l ↦ (let x = first.less.1 l in cc) | inr both ↦ (let x = first.equal.1 both.0 in cc) ]);
-    equal = (λ e. cc, λ both. let x = first.equal.1 both.0 in cc)
-  }
+  less = (λ e. cc, λ e. elim e [ inl l ↦ (let x = first.less.1 l in cc) | inr both ↦ (let x = first.equal.1 both.0 in cc) ]);
+  equal = (λ e. cc, λ both. let x = first.equal.1 both.0 in cc);
+}
 
 tells_numbers_by : (x y : ℕ) (r : Ordering) → MatchOrdering r (x < y) (x ≡ y) (y < x) → Tells r (x < y) (x ≡ y)
 tells_numbers_by x y Less m = record { less = (λ e. m, λ e. refl); equal = (λ e. cc, λ e. absurd (omega arith)) }
@@ -48,20 +48,20 @@ tells_bytes [] (y ∷ ys) = record { less = (λ e. tt, λ e. refl); equal = (λ 
 tells_bytes (x ∷ xs) [] = record { less = (λ e. cc, λ e. absurd e); equal = (λ e. cc, λ e. cc) }
 tells_bytes (x ∷ xs) (y ∷ ys) =
     tells_as (tells_then (nat_cmp x y) (slice_cmp nat_cmp xs ys) (tells_numbers x y) (tells_bytes xs ys))
-      (λ both. cc (both.0, both.1))
-      (λ e. (cc, cc))
+    (λ both. cc (both.0, both.1))
+    (λ e. (cc, cc))
 
 -- what the comparison of faults tells
 fault_tells : (f g : Fault) → Tells (fault_cmp f g) (Before f g) (SameRank f g)
 unfolding fault_cmp Before
 fault_tells f g =
     tells_as
-      (tells_then _ _ (tells_numbers f.phase g.phase)
-        (tells_then _ _ (tells_numbers f.file g.file)
-          (tells_then _ _ (tells_numbers f.at.byte g.at.byte)
-            (tells_then _ _ (tells_numbers f.rule g.rule) (tells_bytes f.name g.name)))))
-      (λ e. record { phase = e.0; file = e.1.0; byte = e.1.1.0; rule = e.1.1.1.0; name = e.1.1.1.1 })
-      (λ s. (s.phase, (s.file, (s.byte, (s.rule, s.name)))))
+    (tells_then _ _ (tells_numbers f.phase g.phase)
+    (tells_then _ _ (tells_numbers f.file g.file)
+    (tells_then _ _ (tells_numbers f.at.byte g.at.byte)
+    (tells_then _ _ (tells_numbers f.rule g.rule) (tells_bytes f.name g.name)))))
+    (λ e. record { phase = e.0; file = e.1.0; byte = e.1.1.0; rule = e.1.1.1.0; name = e.1.1.1.1 })
+    (λ s. (s.phase, (s.file, (s.byte, (s.rule, s.name)))))
 
 -- the comparison answers `Less` exactly where the first fault is before the second
 pub fault_cmp-Less : (f g : Fault) → fault_cmp f g ≡ Less ↔ Before f g
@@ -85,10 +85,10 @@ pub fault_cmp_total : IsTotalOrder fault_cmp
 unfolding fault_cmp
 fault_cmp_total =
     then_total (on_total (λ f. f.phase) nat_cmp_total)
-      (then_total (on_total (λ f. f.file) nat_cmp_total)
-        (then_total (on_total (λ f. f.at.byte) nat_cmp_total)
-          (then_total (on_total (λ f. f.rule) nat_cmp_total)
-            (on_total (λ f. f.name) nat_list_cmp_total))))
+    (then_total (on_total (λ f. f.file) nat_cmp_total)
+    (then_total (on_total (λ f. f.at.byte) nat_cmp_total)
+    (then_total (on_total (λ f. f.rule) nat_cmp_total)
+    (on_total (λ f. f.name) nat_list_cmp_total))))
 
 pub before_irreflexive : BeforeIsIrreflexive
 before_irreflexive f before =

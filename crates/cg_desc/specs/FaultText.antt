@@ -65,7 +65,7 @@ IsRule rule = IsTrue (is_rule rule)
 abbrev pub line_head : List ℕ → At → ℕ → List ℕ → List ℕ
 line_head file at rule phrase =
     file ++ (codes ":" ++ (decimal at.line ++ (codes ":" ++ (decimal at.column
-      ++ (codes ": fault " ++ (decimal rule ++ (codes ": " ++ phrase)))))))
+    ++ (codes ": fault " ++ (decimal rule ++ (codes ": " ++ phrase)))))))
 
 -- the name after a colon, where there is one
 abbrev pub name_part : List ℕ → List ℕ

@@ -19,10 +19,10 @@ BytesBefore (x ∷ xs) (y ∷ ys) = FirstThen (x < y) (x ≡ y) (BytesBefore xs 
 unfoldable pub Before : Fault → Fault → Type 0
 Before f g =
     FirstThen (f.phase < g.phase) (f.phase ≡ g.phase)
-      (FirstThen (f.file < g.file) (f.file ≡ g.file)
-        (FirstThen (f.at.byte < g.at.byte) (f.at.byte ≡ g.at.byte)
-          (FirstThen (f.rule < g.rule) (f.rule ≡ g.rule)
-            (BytesBefore f.name g.name))))
+    (FirstThen (f.file < g.file) (f.file ≡ g.file)
+    (FirstThen (f.at.byte < g.at.byte) (f.at.byte ≡ g.at.byte)
+    (FirstThen (f.rule < g.rule) (f.rule ≡ g.rule)
+    (BytesBefore f.name g.name))))
 
 -- two faults that agree in all that the order reads
 pub record SameRank (f g : Fault) : Type 0 where
@@ -36,10 +36,10 @@ pub record SameRank (f g : Fault) : Type 0 where
 unfoldable pub fault_cmp : Fault → Fault → Ordering
 fault_cmp =
     then_cmp (on (λ f. f.phase) nat_cmp)
-      (then_cmp (on (λ f. f.file) nat_cmp)
-        (then_cmp (on (λ f. f.at.byte) nat_cmp)
-          (then_cmp (on (λ f. f.rule) nat_cmp)
-            (on (λ f. f.name) (slice_cmp nat_cmp)))))
+    (then_cmp (on (λ f. f.file) nat_cmp)
+    (then_cmp (on (λ f. f.at.byte) nat_cmp)
+    (then_cmp (on (λ f. f.rule) nat_cmp)
+    (on (λ f. f.name) (slice_cmp nat_cmp)))))
 
 -- no fault is before itself
 abbrev pub BeforeIsIrreflexive : Type 0

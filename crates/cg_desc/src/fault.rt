@@ -64,8 +64,7 @@ pub fn faults_are_ordered()
     ensures irreflexive { BeforeIsIrreflexive }
     ensures transitive { BeforeIsTransitive }
     ensures total { BeforeIsTotal }
-{
-}
+{}
 
 impl From<Memory> for DescFault {
     ghost from_gives = { λ _ e. e ≡ OutOfMemory };

@@ -21,9 +21,9 @@ in_table-map : (rows : List Row) (rule : ℕ) → in_table (map read rows) rule 
 in_table-map [] rule = refl
 in_table-map (row ∷ rows) rule =
     elim (row.0 == rule) as
-      (λ b. option_map (λ (r : ℕ × List ℕ). r.1) (cond b (Some (read row)) (find (λ (r : ℕ × List ℕ). r.0 == rule) (map read rows)))
-        ≡ option_map (λ (r : Row). r.1.now) (cond b (Some row) (find (λ (r : Row). r.0 == rule) rows)))
-      [ true ↦ refl | false ↦ in_table-map rows rule ]
+    (λ b. option_map (λ (r : ℕ × List ℕ). r.1) (cond b (Some (read row)) (find (λ (r : ℕ × List ℕ). r.0 == rule) (map read rows)))
+    ≡ option_map (λ (r : Row). r.1.now) (cond b (Some row) (find (λ (r : Row). r.0 == rule) rows)))
+    [ true ↦ refl | false ↦ in_table-map rows rule ]
 
 phrase_in_rows : (rows : List Row) (rule : ℕ) → map read rows ≡ phrases → phrase_of rule ≡ in_rows rows rule
 unfolding phrase_of

@@ -1,7 +1,7 @@
 use Rattle.std.proofs.Common.{◌≡◌, ℕ, ◌+◌, List, ◌++◌, take, drop, arith}
 use Rattle.std.proofs.lemmas.List.{take-append-drop}
 use Rattle.std.proofs.lemmas.Grind.{common_steps}
-use Rattle.cg_base.proofs.mem_streams.Rest.give.Goals as goal
+use Rattle.cg_base.proofs.rest.Rest.give.Goals as goal
 
 -- what is left at a place is the next n, and what is left after them
 rest_split : (n at : ℕ) (xs : List ℕ) → drop at xs ≡ take n (drop at xs) ++ drop (at + n) xs
