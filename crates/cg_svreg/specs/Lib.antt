@@ -1,2 +1,3 @@
 pub mod Parts
 pub mod Narrow
+pub mod Named

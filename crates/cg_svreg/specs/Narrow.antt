@@ -2,7 +2,7 @@
 use Rattle.std.specs.Prelude.{◌<◌, List, [], ◌∷◌}
 use Rattle.cg_desc.specs.declared.block.FieldDesc.{FieldDesc}
 use Rattle.cg_desc.specs.declared.block.Item.{Item}
-use Rattle.cg_desc.specs.declared.block.Item.TheVariants.{Reg, Window, SkipTo, Reserved}
+use Rattle.cg_desc.specs.declared.block.Item.TheVariants.{Reg}
 use Rattle.cg_desc.specs.declared.block.LaidRow.{LaidRow}
 
 -- no field reaches above bit 31

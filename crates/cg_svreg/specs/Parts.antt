@@ -1,5 +1,5 @@
 -- The parts of a concatenation, as they are put together.
-use Rattle.std.specs.Prelude.{ℕ, ◌-◌, eqb, cond, List, [], ◌∷◌, ◌++◌, map, reverse}
+use Rattle.std.specs.Prelude.{ℕ, ◌-◌, eqb, cond, List, [], ◌∷◌, map, reverse}
 use Rattle.cg_svspec.specs.Tree.{Expression, net, Expressions, more, expressions}
 use Rattle.cg_sv.specs.Views.{expression_of}
 use Rattle.cg_sv.specs.declared.tree.Expr.{Expr}

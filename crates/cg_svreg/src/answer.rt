@@ -70,6 +70,7 @@ fn error(alloc: Global) -> Result<Expr, Memory>
 }
 
 /// What a read shows: all ones after an error.
+#[tactic(auto, using(crate::proofs::ReadBefore::reads))]
 fn read_data(alloc: Global, rows: &[LaidRow]) -> Result<Expr, Memory>
     ensures { IfOk result (λ x. expression_of x ≡ pick (net reg_error) all_ones (last_rd 0 all_ones rows.now)) }
 {
@@ -80,11 +81,7 @@ fn read_data(alloc: Global, rows: &[LaidRow]) -> Result<Expr, Memory>
 }
 
 /// Adds what tells all rows together, and the assigns of the answer.
-pub fn add_answer(
-    alloc: Global,
-    entries: &mut List<Entry>,
-    rows: &[LaidRow],
-) -> Result<(), Memory>
+pub fn add_answer(alloc: Global, entries: &mut List<Entry>, rows: &[LaidRow]) -> Result<(), Memory>
     ensures { OnOk result (map entry_of entries.new ≡ map entry_of entries.old ++ answer_entries rows.now) }
 {
     add_any(alloc, entries, "hit_any", "hit_", rows)?;

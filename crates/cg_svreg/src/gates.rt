@@ -5,6 +5,7 @@ ghost use Rattle.std.specs.Option.{option_copied};
 ghost use Rattle.cg_desc.specs.BlockStep.{register_named};
 ghost use Rattle.cg_sv.specs.Views.{expression_of};
 ghost use Rattle.cg_regspec.specs.RegisterModule.{gate_net, gate_of, item_gate, gated};
+ghost use Rattle.cg_svreg.specs.Named.{named};
 
 use crate::nets::field_net;
 use cg_base::{Memory, Text};
@@ -12,15 +13,26 @@ use cg_desc::{Item, LaidRow, RegDesc};
 use cg_sv::{Expr, make};
 use std::alloc::Global;
 
+/// The item's register, if it has this name, without regard to case.
+fn named<'a>(item: &'a Item, name: &str) -> Option<&'a RegDesc>
+    ensures { option_copied result ≡ named name.now item.now }
+{
+    match item {
+        Item::Reg(register) => {
+            let found = register.name.as_str().eq_ignore_ascii_case(name);
+            if found { Some(register) } else { None }
+        }
+        Item::Window(_) | Item::SkipTo { .. } | Item::Reserved { .. } => None,
+    }
+}
+
 /// The register of this name, which is compared without regard to case.
 fn register_named<'a>(rows: &'a [LaidRow], name: &str) -> Option<&'a RegDesc>
     ensures { option_copied result ≡ register_named rows.now name.now }
 {
     for row in rows {
-        if let Item::Reg(register) = &row.item {
-            if register.name.as_str().eq_ignore_ascii_case(name) {
-                return Some(register);
-            }
+        if let Some(register) = named(&row.item, name) {
+            return Some(register);
         }
     }
     None

@@ -1,6 +1,6 @@
 //! Whether the address of an access is in a row.
 
-ghost use Rattle.std.specs.Prelude.{◌≡◌, ◌+◌, ◌-◌, ◌/◌, ◌^◌, IfOk, map};
+ghost use Rattle.std.specs.Prelude.{◌≡◌, ◌<◌, ◌+◌, ◌-◌, ◌^◌, IfOk, map};
 ghost use Rattle.cg_svspec.specs.Tree.{cut, lit, cat, any, equal, expressions};
 ghost use Rattle.cg_sv.specs.Views.{expression_of};
 ghost use Rattle.cg_regspec.specs.NetNames.{reg_addr};
@@ -21,6 +21,14 @@ fn address_is(alloc: Global, bits: u32, number: u64) -> Result<Expr, Memory>
     Ok(same)
 }
 
+/// Two to the power of `bit`.
+fn power_of_two(bit: u32) -> u64
+    requires { bit < 64 }
+    ensures { result ≡ 2 ^ bit }
+{
+    1 << bit
+}
+
 /// One term for each set bit of `items` below bit 23, the highest first. Word `first` is the first of the window.
 fn window_terms(alloc: Global, items: u32, first: u32) -> Result<List<Expr>, Memory>
     ensures { IfOk result (λ terms. expressions (map expression_of terms) ≡ window_terms 23 items first) }
@@ -29,7 +37,7 @@ fn window_terms(alloc: Global, items: u32, first: u32) -> Result<List<Expr>, Mem
     let mut left = u64::from(items);
     let mut word = u64::from(first);
     for bit in (0..23u32).rev() {
-        let size = 1u64 << bit;
+        let size = power_of_two(bit);
         if size <= left {
             let term = address_is(alloc, bit, word / size)?;
             terms.push(term)?;

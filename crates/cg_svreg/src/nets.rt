@@ -37,11 +37,7 @@ pub fn field_net(
 }
 
 /// The name of the flip-flop that stores a field.
-pub fn flop_instance(
-    alloc: Global,
-    register: &RegDesc,
-    field: &FieldDesc,
-) -> Result<Text, Memory>
+pub fn flop_instance(alloc: Global, register: &RegDesc, field: &FieldDesc) -> Result<Text, Memory>
     ensures { IfOk result (λ name. name ≡ flop_instance register.now field.now) }
 {
     let net = field_net(alloc, register, field, "")?;

@@ -11,6 +11,7 @@ use cg_sv::{Expr, make};
 use std::alloc::Global;
 
 /// No parts yet.
+#[tactic(auto, unfolding(crate::specs::Parts::from_low))]
 pub fn no_parts(alloc: Global) -> Vec<Expr>
     ensures { from_low result.items ≡ none }
 {
@@ -37,6 +38,7 @@ pub fn put_gap(parts: &mut Vec<Expr>, width: u32) -> Result<(), Memory>
 }
 
 /// The concatenation of the parts.
+#[tactic(auto, unfolding(crate::specs::Parts::from_low))]
 pub fn concatenation(mut parts: Vec<Expr>) -> Expr
     ensures { expression_of result ≡ cat (from_low parts.items) }
 {

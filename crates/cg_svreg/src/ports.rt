@@ -1,6 +1,6 @@
 //! The ports of a register module.
 
-ghost use Rattle.std.specs.Prelude.{◌≡◌, ◌++◌, [], ◌∷◌, OnOk, map, take};
+ghost use Rattle.std.specs.Prelude.{◌≡◌, ◌++◌, [], ◌∷◌, OnOk, map};
 ghost use Rattle.cg_svspec.specs.Register.{input_port, output_port, access_ports};
 ghost use Rattle.cg_sv.specs.Views.{port_of};
 ghost use Rattle.cg_regspec.specs.NetNames.{base};
@@ -13,23 +13,14 @@ use cg_desc::{FieldDesc, Item, LaidRow, RegDesc, WindowDesc};
 use cg_sv::{Port, make};
 use std::alloc::Global;
 
-/// Adds the clock, the reset and the strobes of an access.
-fn add_clock_and_strobes(alloc: Global, ports: &mut List<Port>) -> Result<(), Memory>
-    ensures { OnOk result (map port_of ports.new ≡ map port_of ports.old ++ take 4 access_ports) }
+/// Adds the ports that every register module begins with.
+pub fn add_access_ports(alloc: Global, ports: &mut List<Port>) -> Result<(), Memory>
+    ensures { OnOk result (map port_of ports.new ≡ map port_of ports.old ++ access_ports) }
 {
     make::input(alloc, ports, 1, "clk_i")?;
     make::input(alloc, ports, 1, "rst_ni")?;
     make::input(alloc, ports, 1, "reg_we")?;
     make::input(alloc, ports, 1, "reg_re")?;
-    Ok(())
-}
-
-/// Adds the ports that every register module begins with.
-#[tactic(auto, using(crate::proofs::Lists::nested))]
-pub fn add_access_ports(alloc: Global, ports: &mut List<Port>) -> Result<(), Memory>
-    ensures { OnOk result (map port_of ports.new ≡ map port_of ports.old ++ access_ports) }
-{
-    add_clock_and_strobes(alloc, ports)?;
     make::input(alloc, ports, 32, "reg_addr")?;
     make::input(alloc, ports, 32, "reg_wdata")?;
     make::input(alloc, ports, 4, "reg_be")?;
@@ -148,11 +139,7 @@ fn add_item_ports(alloc: Global, ports: &mut List<Port>, item: &Item) -> Result<
 }
 
 /// Adds the ports of the rows, in their order.
-pub fn add_rows_ports(
-    alloc: Global,
-    ports: &mut List<Port>,
-    rows: &[LaidRow],
-) -> Result<(), Memory>
+pub fn add_rows_ports(alloc: Global, ports: &mut List<Port>, rows: &[LaidRow]) -> Result<(), Memory>
     ensures { OnOk result (map port_of ports.new ≡ map port_of ports.old ++ rows_ports rows.now) }
 {
     for row in rows {

@@ -44,12 +44,7 @@ fn where_hit(alloc: Global, number: usize, value: Expr) -> Result<Expr, Memory>
 }
 
 /// An access of this kind at the row, which does not refuse it.
-fn accepted(
-    alloc: Global,
-    access: &str,
-    refusal: &str,
-    number: usize,
-) -> Result<Expr, Memory>
+fn accepted(alloc: Global, access: &str, refusal: &str, number: usize) -> Result<Expr, Memory>
     ensures { IfOk result (λ x. expression_of x ≡ and (and (net access.now) (net (hit number))) (inv (net (refusal.now ++ decimal number)))) }
 {
     let access = make::net(alloc, access)?;
@@ -78,6 +73,7 @@ fn effective_write(
 }
 
 /// What is read where no row from this number on is hit.
+#[tactic(auto, unfolding(crate::specs::Parts::read_before))]
 pub fn read_before(alloc: Global, number: usize) -> Result<Expr, Memory>
     ensures { IfOk result (λ x. expression_of x ≡ read_before number) }
 {
@@ -144,11 +140,8 @@ fn add_row(
 }
 
 /// Adds the wires of all rows.
-pub fn add_rows(
-    alloc: Global,
-    entries: &mut List<Entry>,
-    rows: &[LaidRow],
-) -> Result<(), Memory>
+#[tactic(auto, using(crate::proofs::ReadBefore::reads))]
+pub fn add_rows(alloc: Global, entries: &mut List<Entry>, rows: &[LaidRow]) -> Result<(), Memory>
     ensures { OnOk result (map entry_of entries.new ≡ map entry_of entries.old ++ rows_entries rows.now 0 all_ones rows.now) }
 {
     for (number, row) in rows.iter().enumerate() {

@@ -3,7 +3,7 @@
 ghost use Rattle.std.specs.Prelude.{◌≡◌, ◌++◌, [], ◌∷◌, OnOk, map};
 ghost use Rattle.cg_svspec.specs.Tree.{net, assign};
 ghost use Rattle.cg_sv.specs.Views.{entry_of, expression_of};
-ghost use Rattle.cg_regspec.specs.NetNames.{window_base, we, re};
+ghost use Rattle.cg_regspec.specs.NetNames.{window_base, window_we, window_re, we, re};
 ghost use Rattle.cg_regspec.specs.RegisterModule.{item_windows, rows_windows};
 
 use crate::nets::{self, window_net};
@@ -27,6 +27,23 @@ fn add_assign(
     Ok(())
 }
 
+/// Adds the strobes of the accesses that a window in row `number` accepts.
+fn add_strobes(
+    alloc: Global,
+    entries: &mut List<Entry>,
+    number: usize,
+    window: &WindowDesc,
+) -> Result<(), Memory>
+    ensures { OnOk result (map entry_of entries.new ≡ map entry_of entries.old
+        ++ assign (window_we window.now) (net (we number)) ∷ assign (window_re window.now) (net (re number)) ∷ []) }
+{
+    let write = nets::row(alloc, "we_", number)?;
+    add_assign(alloc, entries, window, "_we", write)?;
+    let read = nets::row(alloc, "re_", number)?;
+    add_assign(alloc, entries, window, "_re", read)?;
+    Ok(())
+}
+
 /// Adds the assigns of a window in row `number`.
 fn add_window(
     alloc: Global,
@@ -36,10 +53,7 @@ fn add_window(
 ) -> Result<(), Memory>
     ensures { OnOk result (map entry_of entries.new ≡ map entry_of entries.old ++ item_windows number (Item.Window window.now)) }
 {
-    let write = nets::row(alloc, "we_", number)?;
-    add_assign(alloc, entries, window, "_we", write)?;
-    let read = nets::row(alloc, "re_", number)?;
-    add_assign(alloc, entries, window, "_re", read)?;
+    add_strobes(alloc, entries, number, window)?;
     let address = make::net(alloc, "reg_addr")?;
     add_assign(alloc, entries, window, "_addr", address)?;
     let data = make::net(alloc, "reg_wdata")?;

@@ -36,11 +36,7 @@ fn shown_part(alloc: Global, register: &RegDesc, field: &FieldDesc) -> Result<Ex
 }
 
 /// A register's word, from bit 31 down: its fields, and zeros between them.
-fn register_word(
-    alloc: Global,
-    register: &RegDesc,
-    fields: &[FieldDesc],
-) -> Result<Expr, Memory>
+fn register_word(alloc: Global, register: &RegDesc, fields: &[FieldDesc]) -> Result<Expr, Memory>
     ensures { IfOk result (λ x. expression_of x ≡ cat (word_parts register.now 0 none fields.now)) }
 {
     let mut parts = no_parts(alloc);

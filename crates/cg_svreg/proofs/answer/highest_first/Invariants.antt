@@ -9,4 +9,4 @@ use Rattle.cg_svreg.proofs.answer.highest_first.Given as goal
 abbrev pub invariant-loop-number : goal.invariant-loop-number
 invariant-loop-number l =
     highest_first (λ i. l.stem ++ decimal i) l.number (from_low l.parts.items) (drop l.number l.rows)
-        ≡ highest_first (λ i. l.stem ++ decimal i) 0 none l.rows
+    ≡ highest_first (λ i. l.stem ++ decimal i) 0 none l.rows

@@ -1,4 +1,4 @@
-use Rattle.std.proofs.Common.{◌≡◌, ◌+◌, ◌<◌, ◌^◌}
+use Rattle.std.proofs.Common.{◌≡◌, ◌+◌}
 use Rattle.cg_regspec.specs.RegisterModule.{window_terms}
 use Rattle.cg_svreg.specs.Parts.{above}
 use Rattle.cg_svreg.proofs.hits.window_terms.Given as goal

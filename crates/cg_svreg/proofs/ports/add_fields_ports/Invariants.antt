@@ -7,4 +7,4 @@ use Rattle.cg_svreg.proofs.ports.add_fields_ports.Given as goal
 abbrev pub invariant-loop-field : goal.invariant-loop-field
 invariant-loop-field l =
     map port_of l.ports ++ fields_ports l.register (drop l.field-index l.fields)
-        ≡ map port_of l.fn.ports ++ fields_ports l.register l.fields
+    ≡ map port_of l.fn.ports ++ fields_ports l.register l.fields

@@ -8,4 +8,4 @@ use Rattle.cg_svreg.proofs.rows.add_rows.Given as goal
 abbrev pub invariant-loop-number : goal.invariant-loop-number
 invariant-loop-number l =
     map entry_of l.entries ++ rows_entries l.rows l.number (read_before l.number) (drop l.number l.rows)
-        ≡ map entry_of l.fn.entries ++ rows_entries l.rows 0 all_ones l.rows
+    ≡ map entry_of l.fn.entries ++ rows_entries l.rows 0 all_ones l.rows
