@@ -1,0 +1,5 @@
+pub mod Lists
+pub mod Narrow
+pub mod ReadBefore
+pub mod Terms
+pub mod RowsLeft

@@ -1,0 +1,9 @@
+use Rattle.std.proofs.Common.{◌≡◌, ◌++◌, drop, map}
+use Rattle.cg_sv.specs.Views.{entry_of}
+use Rattle.cg_regspec.specs.RegisterModule.{rows_windows}
+use Rattle.cg_svreg.proofs.windows.add_rows_windows.Given as goal
+
+-- the entries so far, and then those of the rows that are left, are all entries
+abbrev pub invariant-loop-number : goal.invariant-loop-number
+invariant-loop-number l =
+    map entry_of l.entries ++ rows_windows l.number (drop l.number l.rows) ≡ map entry_of l.fn.entries ++ rows_windows 0 l.rows

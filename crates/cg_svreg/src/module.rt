@@ -1,0 +1,78 @@
+//! A whole register module.
+
+ghost use Rattle.std.specs.Prelude.{◌≡◌, ◌<◌, ℕ, List, [], ◌++◌, length, map, Some, None, Err, IfOk, OnOk, IfSome};
+ghost use Rattle.cg_svspec.specs.Names.{module_names, first_repeat};
+ghost use Rattle.cg_svspec.specs.Register.{access_ports};
+ghost use Rattle.cg_desc.specs.Laid.{IsLaid};
+ghost use Rattle.cg_sv.specs.Views.{module_of, port_of, entry_of};
+ghost use Rattle.cg_sv.specs.declared.fault.SvRegFault.TheVariants as SvRegFault;
+ghost use Rattle.cg_regspec.specs.RegisterModule.{rows_ports, register_entries, register_module};
+ghost use Rattle.cg_svreg.specs.Narrow.{RowsAreNarrow};
+
+use crate::answer::add_answer;
+use crate::fields::add_rows_fields;
+use crate::ports::{add_access_ports, add_rows_ports};
+use crate::rows::add_rows;
+use crate::states::{add_rows_flops, add_rows_states};
+use crate::windows::add_rows_windows;
+use cg_base::{List, Memory, Text};
+use cg_desc::{LaidFace, LaidRow};
+use cg_sv::{Entry, Module, Port, SvRegFault, names_differ};
+use std::alloc::Global;
+
+fn ports_of(alloc: Global, rows: &[LaidRow]) -> Result<List<Port>, Memory>
+    ensures { IfOk result (λ ports. map port_of ports ≡ access_ports ++ rows_ports rows.now) }
+{
+    let mut ports = List::new(alloc);
+    add_access_ports(alloc, &mut ports)?;
+    add_rows_ports(alloc, &mut ports, rows)?;
+    Ok(ports)
+}
+
+fn entries_of(alloc: Global, face: &LaidFace) -> Result<List<Entry>, Memory>
+    requires { RowsAreNarrow face.now.rows }
+    ensures { IfOk result (λ entries. map entry_of entries ≡ register_entries face.now) }
+{
+    let rows = face.rows.as_slice();
+    let mut entries = List::new(alloc);
+    add_rows_states(alloc, &mut entries, rows)?;
+    add_rows(alloc, &mut entries, rows)?;
+    add_answer(alloc, &mut entries, rows)?;
+    add_rows_fields(alloc, &mut entries, rows)?;
+    add_rows_windows(alloc, &mut entries, rows)?;
+    add_rows_flops(alloc, &mut entries, rows)?;
+    Ok(entries)
+}
+
+/// The module, whose names may clash.
+#[tactic(auto, unfolding(cg_regspec::specs::RegisterModule::register_module))]
+fn any_module(alloc: Global, name: &str, face: &LaidFace) -> Result<Module, Memory>
+    requires { RowsAreNarrow face.now.rows }
+    ensures { IfOk result (λ m. module_of m ≡ register_module name.now face.now) }
+{
+    let name = Text::of(alloc, name)?;
+    let ports = ports_of(alloc, face.rows.as_slice())?;
+    let entries = entries_of(alloc, face)?;
+    Ok(Module {
+        name,
+        ports,
+        entries,
+    })
+}
+
+/// The register module of an interface, under this name.
+///
+/// Its entries stand in this order: the stored fields' wires; six wires for each row; the answer; each field's next value
+/// and what hardware sees of it; what hardware sees of each window; the flip-flops. The module's step in a clock is the
+/// interface's. `Clash` names the first name that the module would declare twice, as that of a field `q` beside a
+/// register's `_q` net.
+pub fn face_module(alloc: Global, name: &str, face: &LaidFace) -> Result<Module, SvRegFault>
+    requires laid { IsLaid face.now }
+    ensures made { IfOk result (λ m. module_of m ≡ register_module name.now face.now) }
+    ensures apart { OnOk result (first_repeat (module_names (register_module name.now face.now)) ≡ None) }
+    ensures clash { (n : List ℕ) → result ≡ Err (SvRegFault.Clash n) → first_repeat (module_names (register_module name.now face.now)) ≡ Some n }
+{
+    let made = any_module(alloc, name, face)?;
+    names_differ(alloc, &made)?;
+    Ok(made)
+}
