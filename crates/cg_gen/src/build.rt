@@ -12,10 +12,12 @@ ghost use Rattle.cg_gen.specs.Build.{Output, limit};
 ghost use Rattle.cg_gen.specs.Due.{IsDueFor, due_of_outputs, stored_name, built_line, line};
 
 use crate::due::{Change, Due};
-use crate::faults::not_built_due;
+use crate::face::plain_face;
+use crate::faults::{clash_due, not_built_due};
 use crate::form::{Form, read_form};
 use cg_base::{List, Memory, Text};
-use cg_sv::{Module, print};
+use cg_sv::{Module, SvRegFault, print};
+use cg_svreg::face_module;
 use std::alloc::Global;
 
 /// The largest description, in bytes.
@@ -73,7 +75,13 @@ fn form_due(alloc: Global, dir: &str, file: &str, text: &[u8], form: &Form) -> R
     requires form { IsForm text.now form.now }
     ensures { IfOk result (λ d. IsDueFor (record { dir = dir.now; file = file.now }) (Some text.now) d) }
 {
-    not_built_due(alloc, file)
+    let name = module_name(alloc, form.block.as_str())?;
+    let face = plain_face(alloc, form.registers.as_slice())?;
+    match face_module(alloc, name.as_str(), &face) {
+        Ok(module) => Ok(module_due(alloc, dir, name.as_str(), &module)?),
+        Err(SvRegFault::Clash { name }) => Ok(clash_due(alloc, file, text, name)?),
+        Err(SvRegFault::Memory) => Err(Memory),
+    }
 }
 
 /// What is due for the bytes that the store gave.
