@@ -6,3 +6,4 @@ pub mod Endings
 pub mod Once
 pub mod Meanings
 pub mod Dues
+pub mod FormDues

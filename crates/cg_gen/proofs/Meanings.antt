@@ -19,7 +19,7 @@ use Rattle.cg_gen.specs.Run.{World, Performs, changed}
 use Rattle.cg_gen.proofs.PlainFaces.{plain-IsLaid, top-IsName}
 
 -- the module of a form acts as its block
-form_means : RegisterModuleMeans → (text : List ℕ) (f : Form) → IsForm text f → first_repeat (module_names (form_module f)) ≡ None
+pub form_means : RegisterModuleMeans → (text : List ℕ) (f : Form) → IsForm text f → first_repeat (module_names (form_module f)) ≡ None
     → (size : ℕ) → RegisterMeans (form_module f) (plain_face size f.registers)
 unfolding register_module
 form_means law text f is apart size =
