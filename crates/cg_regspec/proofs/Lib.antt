@@ -13,3 +13,5 @@ pub mod Fields
 pub mod Steps
 pub mod Resets
 pub mod Means
+pub mod WellNames
+pub mod WellCounts
