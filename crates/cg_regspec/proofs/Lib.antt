@@ -15,3 +15,8 @@ pub mod Resets
 pub mod Means
 pub mod WellNames
 pub mod WellCounts
+pub mod WellDrivers
+pub mod WellSound
+pub mod WellRows
+pub mod WellPorts
+pub mod WellGiven
