@@ -20,3 +20,4 @@ pub mod WellSound
 pub mod WellRows
 pub mod WellPorts
 pub mod WellGiven
+pub mod WellHits
