@@ -21,3 +21,7 @@ pub mod WellRows
 pub mod WellPorts
 pub mod WellGiven
 pub mod WellHits
+pub mod WellEntries
+pub mod WellFields
+pub mod WellFlops
+pub mod WellModule

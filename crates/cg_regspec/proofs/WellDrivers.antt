@@ -51,7 +51,7 @@ outputs-append (p ∷ ps) qs = by p.input (outputs-append ps qs) where
 -- ---- kinds of entries
 
 -- the entry gives a net an expression
-abbrev IsDriven : Entry → Type 0
+abbrev pub IsDriven : Entry → Type 0
 IsDriven (wire w n) = ⊥
 IsDriven (drive w n x) = Unit {0}
 IsDriven (assign n x) = Unit {0}
@@ -71,7 +71,7 @@ driven_instance inputs (drive w n x ∷ es) a = driven_instance inputs es a.1
 driven_instance inputs (assign n x ∷ es) a = driven_instance inputs es a.1
 driven_instance inputs (inst m ps n cs ∷ es) a = absurd a.0
 
-rows_driven : (all : List LaidRow) (i : ℕ) (before : Expression) (rows : List LaidRow) → AllOf IsDriven (rows_entries all i before rows)
+pub rows_driven : (all : List LaidRow) (i : ℕ) (before : Expression) (rows : List LaidRow) → AllOf IsDriven (rows_entries all i before rows)
 rows_driven all i before [] = tt
 rows_driven all i before (row ∷ rows) = (tt, (tt, (tt, (tt, (tt, (tt, rows_driven all (i + 1) _ rows))))))
 
@@ -103,7 +103,7 @@ item_driven i (Window w) = tt
 item_driven i (SkipTo to at) = tt
 item_driven i (Reserved words at) = tt
 
-rows_fields_driven : (i : ℕ) (rows : List LaidRow) → AllOf IsDriven (rows_fields i rows)
+pub rows_fields_driven : (i : ℕ) (rows : List LaidRow) → AllOf IsDriven (rows_fields i rows)
 rows_fields_driven i [] = tt
 rows_fields_driven i (row ∷ rows) = all_join IsDriven (item_fields i row.item) (rows_fields (i + 1) rows) (item_driven i row.item) (rows_fields_driven (i + 1) rows)
 
@@ -113,7 +113,7 @@ item_windows_driven i (Window w) = (tt, (tt, (tt, (tt, (tt, tt)))))
 item_windows_driven i (SkipTo to at) = tt
 item_windows_driven i (Reserved words at) = tt
 
-rows_windows_driven : (i : ℕ) (rows : List LaidRow) → AllOf IsDriven (rows_windows i rows)
+pub rows_windows_driven : (i : ℕ) (rows : List LaidRow) → AllOf IsDriven (rows_windows i rows)
 rows_windows_driven i [] = tt
 rows_windows_driven i (row ∷ rows) = all_join IsDriven (item_windows i row.item) (rows_windows (i + 1) rows) (item_windows_driven i row.item) (rows_windows_driven (i + 1) rows)
 
@@ -267,7 +267,7 @@ parts_assigned states rows answers fields windows flops a b c =
       skip : (xs ys : List Entry) → assigned_of xs ≡ [] → assigned_of (xs ++ ys) ≡ assigned_of ys
       skip xs ys e = assigned-append xs ys ∙ ap (λ z. z ++ assigned_of ys) e
 
-answers_driven : (rows : List LaidRow) → AllOf IsDriven (answer_entries rows)
+pub answers_driven : (rows : List LaidRow) → AllOf IsDriven (answer_entries rows)
 answers_driven rows = (tt, (tt, (tt, (tt, (tt, tt)))))
 
 -- the flip-flops of a register module drive its states
