@@ -1,5 +1,4 @@
 -- The law of register modules.
-use Rattle.std.proofs.Common.{ℕ, List}
 use Rattle.cg_svspec.proofs.Exists.{has_valuation}
 use Rattle.cg_regspec.specs.Laws.{RegisterModuleMeans}
 use Rattle.cg_regspec.proofs.Means.{means_where_well_formed}

@@ -1,5 +1,5 @@
 -- How often a name stands in a list of names: where each of a module's names stands once, so does each of its drivers.
-use Rattle.std.proofs.Common.{◌≡◌, ℕ, zero, suc, ◌+◌, ◌<◌, ◌≤◌, Bool, true, false, cond, ◌⊎◌, inl, inr, List, [], ◌∷◌, ◌++◌, refl, ap, sym, subst, ◌∙◌, arith}
+use Rattle.std.proofs.Common.{◌≡◌, ℕ, zero, suc, ◌+◌, ◌<◌, ◌≤◌, Bool, true, false, cond, inl, inr, List, [], ◌∷◌, ◌++◌, refl, sym, subst, arith}
 use Rattle.std.specs.Str.{bytes_eq}
 use Rattle.cg_svspec.specs.Tree.{Port, Entry, wire, drive, assign, inst, Module}
 use Rattle.cg_svspec.specs.Names.{entry_names, port_names, module_names, Among, Differ}
@@ -15,6 +15,7 @@ abbrev pub count : List ℕ → List (List ℕ) → ℕ
 count n [] = 0
 count n (m ∷ ms) = one_if (bytes_eq n m) + count n ms
 
+-- the counts in two lists add up
 pub count-append : (n : List ℕ) (xs ys : List (List ℕ)) → count n (xs ++ ys) ≡ count n xs + count n ys
 count-append n [] ys = omega arith
 count-append n (x ∷ xs) ys = omega (arith, count-append n xs ys)
@@ -37,6 +38,7 @@ counts_among n (m ∷ ms) h = by (counts_among n ms) (bytes_eq n m) refl h where
   by later true is h = inl (same_name n m is)
   by later false is h = inr (later (omega arith))
 
+-- what is no member stands nowhere
 none_counted : (n : List ℕ) (ms : List (List ℕ)) → (Among n ms → ⊥) → count n ms ≡ 0
 none_counted n ms free = by (count n ms) refl where
   by : (k : ℕ) → count n ms ≡ k → k ≡ 0
@@ -53,6 +55,7 @@ differ_counts n (m ∷ ms) d = by (differ_counts n ms d.1) (bytes_eq n m) refl w
       omega (arith, none_counted n ms (subst (λ z. Among z ms → ⊥) (sym same) d.0))
   by later false is = omega (arith, later)
 
+-- and back: where each name stands at most once, no name stands twice
 counts_differ : (ms : List (List ℕ)) → ((n : List ℕ) → count n ms ≤ 1) → Differ ms
 counts_differ [] once = tt
 counts_differ (m ∷ ms) once = (new, counts_differ ms (λ n. omega (arith, once n))) where
@@ -109,6 +112,7 @@ driven_count n (drive w m x ∷ es) = omega (arith, driven_count n es)
 driven_count n (assign m x ∷ es) = omega (arith, driven_count n es)
 driven_count n (inst p ps m cs ∷ es) = driven_count n es
 
+-- each wire is a plain or a driven one
 wires_count : (n : List ℕ) (es : List Entry) → count n (wires_of es) ≡ count n (plain_of es) + count n (drives_of es)
 wires_count n [] = omega arith
 wires_count n (wire w m ∷ es) = omega (arith, wires_count n es)
@@ -133,9 +137,18 @@ pub record Balanced (m : Module) : Type 0 where
 -- a balanced module's names are its inputs, its drivers and its instances
 total : (m : Module) → Balanced m → (n : List ℕ) → count n (module_names m) ≡ (count n (inputs_of m.ports) + count n (drivers_of m)) + count n (instances_of m.entries)
 total m balanced n =
-    omega (arith, count-append n (port_names m.ports) (entry_names m.entries), count-append n (expression_driven m.entries) (instance_driven (inputs_of m.ports) m.entries),
-      ports_count n m.ports, names_count n m.entries, driven_count n m.entries, balanced.states n, balanced.outputs n)
+    omega (
+      arith,
+      count-append n (port_names m.ports) (entry_names m.entries),
+      count-append n (expression_driven m.entries) (instance_driven (inputs_of m.ports) m.entries),
+      ports_count n m.ports,
+      names_count n m.entries,
+      driven_count n m.entries,
+      balanced.states n,
+      balanced.outputs n,
+    )
 
+-- where the names of a balanced module differ, no net has two drivers
 pub balanced_drivers_differ : (m : Module) → Balanced m → Differ (module_names m) → Differ (drivers_of m)
 balanced_drivers_differ m balanced d = counts_differ (drivers_of m) (λ n. omega (arith, total m balanced n, differ_counts n (module_names m) d))
 
@@ -144,24 +157,39 @@ all_among : (ns known : List (List ℕ)) → ((n : List ℕ) → Among n ns → 
 all_among [] known up = tt
 all_among (n ∷ ns) known up = (up n (inl refl), all_among ns known (λ k a. up k (inr a)))
 
+-- and of none
 none_among : (ns known : List (List ℕ)) → ((n : List ℕ) → Among n ns → Among n known → ⊥) → NoneAmong ns known
 none_among [] known free = tt
 none_among (n ∷ ns) known free = (free n (inl refl), none_among ns known (λ k a. free k (inr a)))
 
+-- each output of a balanced module has a driver
 pub balanced_outputs_driven : (m : Module) → Balanced m → AllAmong (outputs_of m.ports) (drivers_of m)
 balanced_outputs_driven m balanced = all_among (outputs_of m.ports) (drivers_of m) up where
   up : (n : List ℕ) → Among n (outputs_of m.ports) → Among n (drivers_of m)
   up n a = counts_among n (drivers_of m)
-      (omega (arith, count-append n (expression_driven m.entries) (instance_driven (inputs_of m.ports) m.entries), driven_count n m.entries, balanced.outputs n,
-        among_counts n (outputs_of m.ports) a))
+      (omega (
+        arith,
+        count-append n (expression_driven m.entries) (instance_driven (inputs_of m.ports) m.entries),
+        driven_count n m.entries,
+        balanced.outputs n,
+        among_counts n (outputs_of m.ports) a,
+      ))
 
+-- so has each wire
 pub balanced_wires_driven : (m : Module) → Balanced m → AllAmong (wires_of m.entries) (drivers_of m)
 balanced_wires_driven m balanced = all_among (wires_of m.entries) (drivers_of m) up where
   up : (n : List ℕ) → Among n (wires_of m.entries) → Among n (drivers_of m)
   up n a = counts_among n (drivers_of m)
-      (omega (arith, count-append n (expression_driven m.entries) (instance_driven (inputs_of m.ports) m.entries), driven_count n m.entries, wires_count n m.entries, balanced.states n,
-        among_counts n (wires_of m.entries) a))
+      (omega (
+        arith,
+        count-append n (expression_driven m.entries) (instance_driven (inputs_of m.ports) m.entries),
+        driven_count n m.entries,
+        wires_count n m.entries,
+        balanced.states n,
+        among_counts n (wires_of m.entries) a,
+      ))
 
+-- where the names differ, no input has one
 pub balanced_inputs_free : (m : Module) → Balanced m → Differ (module_names m) → NoneAmong (inputs_of m.ports) (drivers_of m)
 balanced_inputs_free m balanced d = none_among (inputs_of m.ports) (drivers_of m) free where
   free : (n : List ℕ) → Among n (inputs_of m.ports) → Among n (drivers_of m) → ⊥

@@ -1,8 +1,8 @@
 -- The wires of the states, of the rows, and of the answer fit where they stand.
-use Rattle.std.proofs.Common.{◌≡◌, ℕ, suc, ◌+◌, ◌-◌, ◌^◌, ◌<◌, ◌≤◌, Bool, true, false, cond, ◌⊎◌, inl, inr, List, [], ◌∷◌, ◌++◌, length, refl, subst, arith, codes}
+use Rattle.std.proofs.Common.{◌≡◌, ℕ, suc, ◌+◌, ◌-◌, ◌^◌, ◌<◌, ◌≤◌, Bool, true, false, cond, inl, List, [], ◌∷◌, length, refl, subst, arith, codes}
 use Rattle.cg_svspec.specs.Characters.{IsName, IsWord}
 use Rattle.cg_svspec.specs.Printable.{IsWidth, AllOf}
-use Rattle.cg_svspec.specs.Tree.{Expression, net, lit, cat, inv, any, and, or, pick, Expressions, none, more, Entry}
+use Rattle.cg_svspec.specs.Tree.{Expression, net, cat, inv, any, and, Expressions, none, more}
 use Rattle.cg_desc.specs.BlockStep.{EachField}
 use Rattle.cg_desc.specs.Laid.{HasRow}
 use Rattle.cg_desc.specs.declared.block.FieldDesc.{FieldDesc}
@@ -10,21 +10,23 @@ use Rattle.cg_desc.specs.declared.block.RegDesc.{RegDesc}
 use Rattle.cg_desc.specs.declared.block.Item.{Item}
 use Rattle.cg_desc.specs.declared.block.Item.TheVariants.{Reg, Window, SkipTo, Reserved}
 use Rattle.cg_desc.specs.declared.block.LaidRow.{LaidRow}
-use Rattle.cg_regspec.specs.NetNames.{reg_we, reg_re, reg_rdata, reg_error, hit_any, wbad_any, rbad_any, hit, wbad, rbad, we, re, rd, state_net}
+use Rattle.cg_regspec.specs.NetNames.{reg_we, reg_re, reg_error, hit_any, wbad_any, rbad_any, hit, wbad, rbad, we, re, rd, state_net}
 use Rattle.cg_regspec.specs.RegisterModule.{width_of, states_of, item_states, rows_states, rows_entries, all_ones, last_rd, highest_first, refused, answer_entries}
 use Rattle.cg_regspec.proofs.WellNames.{literal_name, row_name, field_name}
-use Rattle.cg_regspec.proofs.WellSound.{Above, Up, Declared, Has, same_up, up_up, declared_up, has_up, Sound, SoundParts, sound_deeper, sound_net, sound_lit, sound_inv, sound_any, sound_and, sound_or, sound_pick, sound_none, sound_more, HasPart, sound_cat, with_wire, with_drive, with_assign, after, up_wire, up_drive, up_assign, up_after, drive_has, Sounds, sounds_none, sounds_wire, sounds_drive, sounds_assign, sounds_join, GivenBy}
+use Rattle.cg_regspec.proofs.WellSound.{Above, Up, Has, up_up, declared_up, has_up, Sound, SoundParts, sound_deeper, sound_net, sound_lit, sound_inv, sound_any, sound_and, sound_or, sound_pick, sound_none, sound_more, HasPart, sound_cat, with_wire, with_drive, with_assign, after, up_drive, up_assign, drive_has, Sounds, sounds_none, sounds_wire, sounds_drive, sounds_assign, sounds_join, GivenBy}
 use Rattle.cg_regspec.proofs.WellRows.{FieldFits, field_width, ItemOk, RowsOk}
-use Rattle.cg_regspec.proofs.WellGiven.{AccessGiven, ItemGiven, RowsGiven}
+use Rattle.cg_regspec.proofs.WellGiven.{AccessGiven, RowsGiven}
 use Rattle.cg_regspec.proofs.WellHits.{hit_sound, write_refused_sound, read_refused_sound, gate_sound, item_word_sound}
 
 -- ---- the states
 
+-- the wires of the states of a register fit
 fields_states_sound : {inputs : List (List ℕ)} (e : Above) (r : RegDesc) (fs : List FieldDesc) → IsWord r.name → EachField FieldFits fs → Sounds inputs e (states_of r fs)
 fields_states_sound e r [] word fit = sounds_none
 fields_states_sound e r (f ∷ fs) word fit =
     sounds_wire (field_width f fit.0) (field_name r f (codes "_s") word fit.0.word refl) (fields_states_sound (with_wire e (state_net r f) (width_of f)) r fs word fit.1)
 
+-- those of an item
 item_states_sound : {inputs : List (List ℕ)} (e : Above) (all : List LaidRow) (first : ℕ) (item : Item) → ItemOk all first item → Sounds inputs e (item_states item)
 item_states_sound {inputs} e all first (Reg r) ok = by r.hwext (fields_states_sound e r r.fields ok.word ok.each) where
   by : (b : Bool) → Sounds inputs e (states_of r r.fields) → Sounds inputs e (cond b [] (states_of r r.fields))
@@ -34,6 +36,7 @@ item_states_sound e all first (Window w) ok = sounds_none
 item_states_sound e all first (SkipTo to at) ok = absurd ok
 item_states_sound e all first (Reserved words at) ok = absurd ok
 
+-- those of all rows
 pub rows_states_sound : {inputs : List (List ℕ)} (e : Above) (all rows : List LaidRow) → RowsOk all rows → Sounds inputs e (rows_states rows)
 rows_states_sound e all [] ok = sounds_none
 rows_states_sound e all (row ∷ rows) ok =
@@ -41,9 +44,11 @@ rows_states_sound e all (row ∷ rows) ok =
 
 -- ---- the rows
 
+-- a bit is a width
 bit_width : IsWidth 1
 bit_width = (omega arith, omega arith)
 
+-- and so is a word
 word_width : IsWidth 32
 word_width = (omega arith, omega arith)
 
@@ -51,6 +56,7 @@ word_width = (omega arith, omega arith)
 abbrev pub StaysSound : Above → Expression → Type 0
 StaysSound e x = (f : Above) → Up e f → Sound f 1 x 32
 
+-- the word of ones is sound
 pub ones_sound : {e : Above} (d : ℕ) → 0 < d → Sound e d all_ones 32
 ones_sound d some = sound_lit d 32 (2 ^ 32 - 1) some (omega arith, omega arith, omega arith)
 
@@ -90,9 +96,9 @@ rows_sound {inputs} b all access given e up i before stays (row ∷ rows) ok hav
     let rbad4 : Has e4 (rbad i) 1 = has_up up34 (drive_has e2 (rbad i) 1 rbad_name) in
     let one : 0 < 1 = omega arith in
     let write3 : Sound e3 4 (and (and (net reg_we) (net (hit i))) (inv (net (wbad i)))) 1
-      = sound_deeper (sound_and (sound_and (sound_net 1 one (has_up b3 access.write)) (sound_net 1 one hit3)) (sound_inv (sound_net 1 one wbad3))) (omega arith) in
+    = sound_deeper (sound_and (sound_and (sound_net 1 one (has_up b3 access.write)) (sound_net 1 one hit3)) (sound_inv (sound_net 1 one wbad3))) (omega arith) in
     let read4 : Sound e4 3 (and (and (net reg_re) (net (hit i))) (inv (net (rbad i)))) 1
-      = sound_and (sound_and (sound_net 1 one (has_up b4 access.read)) (sound_net 1 one hit4)) (sound_inv (sound_net 1 one rbad4)) in
+    = sound_and (sound_and (sound_net 1 one (has_up b4 access.read)) (sound_net 1 one hit4)) (sound_inv (sound_net 1 one rbad4)) in
     let shown : StaysSound e6 (net (rd i)) = λ f more. sound_net 1 one (has_up more (drive_has e5 (rd i) 32 rd_name)) in
     sounds_drive bit_width hit_name (omega arith) (hit_sound all row ok.0 (has_up up access.address))
     (sounds_drive bit_width wbad_name (omega arith) (sound_and (sound_net 3 (omega arith) hit1) (write_refused_sound all row.first row.item ok.0 (has_up b1 access.strobes)))
@@ -100,7 +106,7 @@ rows_sound {inputs} b all access given e up i before stays (row ∷ rows) ok hav
     (sounds_drive bit_width we_name (omega arith) (gate_sound b all row.first row.item ok.0 given b3 write3)
     (sounds_drive bit_width re_name (omega arith) read4
     (sounds_drive word_width rd_name (omega arith)
-      (sound_pick (sound_net 2 (omega arith) hit5) (item_word_sound b all row.first row.item ok.0 have.0 b5) (sound_deeper (stays e5 (up_up up1 (up_up up12 (up_up up23 (up_up up34 up45))))) (omega arith)))
+    (sound_pick (sound_net 2 (omega arith) hit5) (item_word_sound b all row.first row.item ok.0 have.0 b5) (sound_deeper (stays e5 (up_up up1 (up_up up12 (up_up up23 (up_up up34 up45))))) (omega arith)))
     (rows_sound b all access given e6 (up_up b5 up56) (i + 1) (net (rd i)) shown rows ok.1 have.1))))))
 
 -- ---- what the rows give
@@ -114,10 +120,12 @@ pub record RowHas (e : Above) (i : ℕ) : Type 0 where
   pub read : Has e (re i) 1
   pub shows : Has e (rd i) 32
 
+-- the wires of all rows from this number on
 abbrev pub RowsHave : Above → ℕ → List LaidRow → Type 0
 RowsHave e i [] = Unit {0}
 RowsHave e i (row ∷ rows) = RowHas e i × RowsHave e (i + 1) rows
 
+-- they stand above behind the entries of the rows
 pub rows_have : (e : Above) (all : List LaidRow) (i : ℕ) (before : Expression) (rows : List LaidRow) → AllOf (GivenBy e) (rows_entries all i before rows) → RowsHave e i rows
 rows_have e all i before [] given = tt
 rows_have e all i before (row ∷ rows) given = (
@@ -132,18 +140,22 @@ abbrev EachHas : Above → (ℕ → List ℕ) → ℕ → List LaidRow → Type 
 EachHas e name i [] = Unit {0}
 EachHas e name i (row ∷ rows) = Has e (name i) 1 × EachHas e name (i + 1) rows
 
+-- each row has its hit
 each_hit : {b e : Above} → Up b e → (i : ℕ) (rows : List LaidRow) → RowsHave b i rows → EachHas e hit i rows
 each_hit up i [] have = tt
 each_hit up i (row ∷ rows) have = (has_up up have.0.hits, each_hit up (i + 1) rows have.1)
 
+-- its refused write
 each_write_bad : {b e : Above} → Up b e → (i : ℕ) (rows : List LaidRow) → RowsHave b i rows → EachHas e wbad i rows
 each_write_bad up i [] have = tt
 each_write_bad up i (row ∷ rows) have = (has_up up have.0.write_bad, each_write_bad up (i + 1) rows have.1)
 
+-- and its refused read
 each_read_bad : {b e : Above} → Up b e → (i : ℕ) (rows : List LaidRow) → RowsHave b i rows → EachHas e rbad i rows
 each_read_bad up i [] have = tt
 each_read_bad up i (row ∷ rows) have = (has_up up have.0.read_bad, each_read_bad up (i + 1) rows have.1)
 
+-- the nets of the rows, put together, have one bit for each row
 highest_sound : {e : Above} (name : ℕ → List ℕ) (i k : ℕ) (below : Expressions) (rows : List LaidRow) → EachHas e name i rows → SoundParts e 1 below k
     → SoundParts e 1 (highest_first name i below rows) (k + length rows)
 highest_sound {e} name i k below [] have s = let same : k ≡ k + 0 = omega arith in subst (λ w. SoundParts e 1 below w) same s
@@ -152,10 +164,12 @@ highest_sound {e} name i k below (row ∷ rows) have s =
     subst (λ w. SoundParts e 1 (highest_first name (i + 1) (more (net (name i)) below) rows) w) same
     (highest_sound name (i + 1) (suc k) (more (net (name i)) below) rows have.1 (sound_more (suc k) (sound_net 1 (omega arith) have.0) s (omega arith)))
 
+-- a part that is there stays
 highest_stays : (name : ℕ → List ℕ) (i : ℕ) (below : Expressions) (rows : List LaidRow) → HasPart below → HasPart (highest_first name i below rows)
 highest_stays name i below [] some = some
 highest_stays name i below (row ∷ rows) some = highest_stays name (i + 1) (more (net (name i)) below) rows tt
 
+-- there is a part where there is a row
 highest_some : (name : ℕ → List ℕ) (rows : List LaidRow) → HasRow rows → HasPart (highest_first name 0 none rows)
 highest_some name [] some = absurd some
 highest_some name (row ∷ rows) some = highest_stays name (0 + 1) (more (net (name 0)) none) rows tt
@@ -169,9 +183,11 @@ last_sound : {b e : Above} → Up b e → (i : ℕ) (before : Expression) (rows 
 last_sound up i before [] have s = s
 last_sound up i before (row ∷ rows) have s = last_sound up (i + 1) (net (rd i)) rows have.1 (sound_net 2 (omega arith) (has_up up have.0.shows))
 
+-- a refusal is sound
 refused_sound : {e : Above} {bad : List ℕ} → Has e hit_any 1 → Has e bad 1 → Sound e 3 (refused bad) 1
 refused_sound hits bad = sound_or (sound_inv (sound_net 1 (omega arith) hits)) (sound_net 2 (omega arith) bad)
 
+-- the entries of the answer fit
 pub answer_sound : {inputs : List (List ℕ)} (b c e : Above) (rows : List LaidRow) → AccessGiven b → Up b e → RowsHave c 0 rows → Up c e → HasRow rows → length rows ≤ 2 ^ 24
     → Sounds inputs e (answer_entries rows)
 answer_sound b c e rows access up have cup some few =
@@ -195,8 +211,8 @@ answer_sound b c e rows access up have cup some few =
     (sounds_drive bit_width wbad_name (omega arith) (some_net_sound wbad rows some few (each_write_bad (up_up cup up1) 0 rows have))
     (sounds_drive bit_width rbad_name (omega arith) (some_net_sound rbad rows some few (each_read_bad (up_up cup (up_up up1 up12)) 0 rows have))
     (sounds_assign (declared_up b3 access.fault) (omega arith)
-      (sound_or (sound_and (sound_net 3 (omega arith) (has_up b3 access.write)) (refused_sound any3 wbad3)) (sound_and (sound_net 3 (omega arith) (has_up b3 access.read)) (refused_sound any3 rbad3)))
+    (sound_or (sound_and (sound_net 3 (omega arith) (has_up b3 access.write)) (refused_sound any3 wbad3)) (sound_and (sound_net 3 (omega arith) (has_up b3 access.read)) (refused_sound any3 rbad3)))
     (sounds_assign (declared_up (up_up b3 up34) access.data_out) (omega arith)
-      (sound_pick (sound_net 2 (omega arith) fault4) (ones_sound 2 (omega arith))
-        (last_sound (up_up cup (up_up up1 (up_up up12 (up_up up23 up34)))) 0 all_ones rows have (ones_sound 2 (omega arith))))
+    (sound_pick (sound_net 2 (omega arith) fault4) (ones_sound 2 (omega arith))
+    (last_sound (up_up cup (up_up up1 (up_up up12 (up_up up23 up34)))) 0 all_ones rows have (ones_sound 2 (omega arith))))
     sounds_none))))

@@ -1,9 +1,8 @@
 -- The entries of fields and windows fit where they stand.
-use Rattle.std.proofs.Common.{◌≡◌, ℕ, suc, ◌+◌, ◌-◌, ◌^◌, ◌<◌, ◌≤◌, Bool, true, false, cond, ◌⊎◌, inl, inr, List, [], ◌∷◌, ◌++◌, refl, arith, codes}
+use Rattle.std.proofs.Common.{◌≡◌, ℕ, suc, ◌+◌, ◌-◌, ◌^◌, ◌<◌, ◌≤◌, Bool, true, false, cond, List, [], ◌∷◌, ◌++◌, refl, arith, codes}
 use Rattle.std.proofs.lemmas.Nat.{pow_pos}
 use Rattle.cg_svspec.specs.Characters.{IsName, IsWord}
-use Rattle.cg_svspec.specs.Printable.{AllOf}
-use Rattle.cg_svspec.specs.Tree.{Expression, net, lit, inv, and, or, pick, Entry, assign}
+use Rattle.cg_svspec.specs.Tree.{Expression, net, pick, Entry, assign}
 use Rattle.cg_desc.specs.AccessTable.{hardware_writes}
 use Rattle.cg_desc.specs.BlockStep.{shows_q, shows_qe, shows_re, EachField}
 use Rattle.cg_desc.specs.declared.block.SwAccess.{SwAccess}
@@ -14,23 +13,25 @@ use Rattle.cg_desc.specs.declared.block.WindowDesc.{WindowDesc}
 use Rattle.cg_desc.specs.declared.block.Item.{Item}
 use Rattle.cg_desc.specs.declared.block.Item.TheVariants.{Reg, Window, SkipTo, Reserved}
 use Rattle.cg_desc.specs.declared.block.LaidRow.{LaidRow}
-use Rattle.cg_regspec.specs.NetNames.{reg_addr, reg_wdata, reg_be, we, re, state_net, hold_net, next_net, q_net, qe_net, re_net, d_net, de_net, window_we, window_re, window_addr, window_wdata, window_be}
+use Rattle.cg_regspec.specs.NetNames.{reg_wdata, we, re, state_net, hold_net, next_net, q_net, qe_net, re_net, d_net, de_net, window_we, window_re, window_addr, window_wdata}
 use Rattle.cg_regspec.specs.RegisterModule.{width_of, written_bits, zero_bits, one_bits, next_of, hold_of, entry_if, field_views, field_updates, field_entries, fields_entries, item_fields, rows_fields, item_windows, rows_windows}
-use Rattle.cg_regspec.proofs.Parts.{all_front, all_back}
 use Rattle.cg_regspec.proofs.WellNames.{field_name}
-use Rattle.cg_regspec.proofs.WellSound.{Above, Up, Declared, Has, same_up, up_up, declared_up, has_up, Sound, sound_deeper, sound_net, sound_lit, sound_inv, sound_and, sound_or, sound_pick, sound_slice, with_drive, with_assign, after, up_drive, up_assign, up_after, drive_has, Sounds, sounds_none, sounds_drive, sounds_assign, sounds_join, GivenBy}
+use Rattle.cg_regspec.proofs.WellSound.{Above, Up, Declared, Has, up_up, declared_up, has_up, Sound, sound_deeper, sound_net, sound_lit, sound_inv, sound_and, sound_or, sound_pick, sound_slice, with_drive, with_assign, after, up_drive, up_assign, up_after, drive_has, Sounds, sounds_none, sounds_drive, sounds_assign, sounds_join}
 use Rattle.cg_regspec.proofs.WellRows.{FieldFits, field_some, field_narrow, field_width, ItemOk, RowsOk}
 use Rattle.cg_regspec.proofs.WellGiven.{AccessGiven, FieldGiven, WindowGiven, ItemGiven, RowsGiven}
 use Rattle.cg_regspec.proofs.WellEntries.{RowHas, RowsHave}
 
 -- ---- expressions of a field
 
+-- the bits of the write data for a field are sound
 written_sound : {e : Above} (f : FieldDesc) → FieldFits f → Has e reg_wdata 32 → Sound e 1 (written_bits f) (width_of f)
 written_sound f fit data_in = sound_slice 1 32 f.msb f.lsb (omega arith) data_in (omega arith) (omega arith) fit.low fit.order
 
+-- so are zeros
 zero_sound : {e : Above} (d w : ℕ) → 0 < d → 0 < w → w ≤ 32 → Sound e d (zero_bits w) w
 zero_sound d w some wide narrow = sound_lit d w 0 some (wide, narrow, pow_pos w)
 
+-- and ones
 one_sound : {e : Above} (d w : ℕ) → 0 < d → 0 < w → w ≤ 32 → Sound e d (one_bits w) w
 one_sound d w some wide narrow = sound_lit d w (2 ^ w - 1) some (wide, narrow, omega (arith, pow_pos w))
 
@@ -63,6 +64,7 @@ hold_sound {e} b r f stored given up = by (hardware_writes f.hw) refl where
 
 -- ---- entries of a field
 
+-- the wires of a stored field fit
 updates_sound : {inputs : List (List ℕ)} (b c e : Above) (i : ℕ) (r : RegDesc) (f : FieldDesc) → AccessGiven b → RowHas c i → FieldGiven b r f → Up b e → Up c e → IsWord r.name → FieldFits f
     → r.hwext ≡ false → Sounds inputs e (field_updates i r f)
 updates_sound b c e i r f access row given up cup word fit stored =
@@ -73,8 +75,8 @@ updates_sound b c e i r f access row given up cup word fit stored =
     let hold1 : Has e1 (hold_net r f) (width_of f) = drive_has e (hold_net r f) (width_of f) hold_name in
     sounds_drive (field_width f fit) hold_name (omega arith) (hold_sound b r f stored given up)
     (sounds_drive (field_width f fit) next_name (omega arith)
-      (next_sound f.sw i (width_of f) (has_up (up_up cup up1) row.write) (has_up (up_up cup up1) row.read) (field_some f fit) (field_narrow f fit)
-        (written_sound f fit (has_up (up_up up up1) access.data_in)) (sound_net 1 (omega arith) hold1))
+    (next_sound f.sw i (width_of f) (has_up (up_up cup up1) row.write) (has_up (up_up cup up1) row.read) (field_some f fit) (field_narrow f fit)
+    (written_sound f fit (has_up (up_up up up1) access.data_in)) (sound_net 1 (omega arith) hold1))
     sounds_none)
 
 -- of an external register there are none
@@ -88,11 +90,13 @@ view_by : {inputs : List (List ℕ)} {e : Above} {n : List ℕ} {x : Expression}
 view_by true target s = sounds_assign (target refl) (omega arith) s sounds_none
 view_by false target s = sounds_none
 
+-- what hardware sees of a field is sound
 seen_sound : {e : Above} (b : Above) (external : Bool) (r : RegDesc) (f : FieldDesc) → r.hwext ≡ external → AccessGiven b → FieldGiven b r f → Up b e → FieldFits f
     → Sound e 1 (cond external (written_bits f) (net (state_net r f))) (width_of f)
 seen_sound b true r f is access given up fit = written_sound f fit (has_up up access.data_in)
 seen_sound b false r f is access given up fit = sound_net 1 (omega arith) (has_up up (given.state is))
 
+-- the assignments of the outputs of a field fit
 views_sound : {inputs : List (List ℕ)} (b c e : Above) (i : ℕ) (r : RegDesc) (f : FieldDesc) → AccessGiven b → RowHas c i → FieldGiven b r f → Up b e → Up c e → FieldFits f
     → Sounds inputs e (field_views i r f)
 views_sound b c e i r f access row given up cup fit =
@@ -105,6 +109,7 @@ views_sound b c e i r f access row given up cup fit =
     (sounds_join (after e q) qe re (view_by (shows_qe r f) (λ is. declared_up (up_up up up1) (given.write_seen is)) (sound_net 1 (omega arith) (has_up (up_up cup up1) row.write)))
     (view_by (shows_re r f) (λ is. declared_up (up_up up up2) (given.read_seen is)) (sound_net 1 (omega arith) (has_up (up_up cup up2) row.read))))
 
+-- the entries of a field fit
 field_sound : {inputs : List (List ℕ)} (b c e : Above) (i : ℕ) (r : RegDesc) (f : FieldDesc) → AccessGiven b → RowHas c i → FieldGiven b r f → Up b e → Up c e → IsWord r.name → FieldFits f
     → Sounds inputs e (field_entries i r f)
 field_sound b c e i r f access row given up cup word fit =
@@ -113,6 +118,7 @@ field_sound b c e i r f access row given up cup word fit =
     sounds_join e updates (field_views i r f) (updates_by e r.hwext i r f (λ stored. updates_sound b c e i r f access row given up cup word fit stored))
     (views_sound b c (after e updates) i r f access row given (up_up up more) (up_up cup more) fit)
 
+-- of all fields of a register
 fields_sound : {inputs : List (List ℕ)} (b c e : Above) (i : ℕ) (r : RegDesc) (fs : List FieldDesc) → AccessGiven b → RowHas c i → EachField (FieldGiven b r) fs → Up b e → Up c e → IsWord r.name
     → EachField FieldFits fs → Sounds inputs e (fields_entries i r fs)
 fields_sound b c e i r [] access row given up cup word fit = sounds_none
@@ -121,6 +127,7 @@ fields_sound b c e i r (f ∷ fs) access row given up cup word fit =
     sounds_join e (field_entries i r f) (fields_entries i r fs) (field_sound b c e i r f access row given.0 up cup word fit.0)
     (fields_sound b c (after e (field_entries i r f)) i r fs access row given.1 (up_up up more) (up_up cup more) word fit.1)
 
+-- of an item
 item_fields_sound : {inputs : List (List ℕ)} (b c e : Above) (i : ℕ) (all : List LaidRow) (first : ℕ) (item : Item) → AccessGiven b → RowHas c i → ItemGiven b item → Up b e → Up c e
     → ItemOk all first item → Sounds inputs e (item_fields i item)
 item_fields_sound b c e i all first (Reg r) access row given up cup ok = fields_sound b c e i r r.fields access row given up cup ok.word ok.each
@@ -139,6 +146,7 @@ rows_fields_sound b c e i all (row ∷ rows) access have given up cup ok =
 
 -- ---- windows
 
+-- the assignments of a window fit
 window_sound : {inputs : List (List ℕ)} (b c e : Above) (i : ℕ) (w : WindowDesc) → AccessGiven b → RowHas c i → WindowGiven b w → Up b e → Up c e → Sounds inputs e (item_windows i (Window w))
 window_sound b c e i w access row given up cup =
     let e1 : Above = with_assign e (window_we w) in
@@ -157,6 +165,7 @@ window_sound b c e i w access row given up cup =
     (sounds_assign (declared_up (up_up up up4) given.strobes) (omega arith) (sound_net 1 one (has_up (up_up up up4) access.strobes))
     sounds_none))))
 
+-- of an item
 item_windows_sound : {inputs : List (List ℕ)} (b c e : Above) (i : ℕ) (item : Item) → AccessGiven b → RowHas c i → ItemGiven b item → Up b e → Up c e → Sounds inputs e (item_windows i item)
 item_windows_sound b c e i (Reg r) access row given up cup = sounds_none
 item_windows_sound b c e i (Window w) access row given up cup = window_sound b c e i w access row given up cup

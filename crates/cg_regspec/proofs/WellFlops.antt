@@ -1,10 +1,9 @@
 -- The flip-flops of a register module fit where they stand.
-use Rattle.std.proofs.Common.{◌≡◌, ℕ, suc, ◌+◌, ◌^◌, ◌<◌, ◌≤◌, eqb, Bool, true, false, cond, List, [], ◌∷◌, ◌++◌, refl, arith, codes}
+use Rattle.std.proofs.Common.{◌≡◌, ℕ, ◌+◌, ◌^◌, ◌<◌, ◌≤◌, eqb, Bool, true, false, cond, List, [], ◌∷◌, refl, arith, codes}
 use Rattle.std.proofs.lemmas.Bool.{eqb-true}
-use Rattle.cg_svspec.specs.Characters.{IsName, IsWord}
+use Rattle.cg_svspec.specs.Characters.{IsWord}
 use Rattle.cg_svspec.specs.Printable.{AllOf, IsLiteral, IsNumberOrLiteral, IsPrintableEntry}
 use Rattle.cg_svspec.specs.Tree.{lit, Entry}
-use Rattle.cg_svspec.specs.WellFormed.{FlopFits, HasPorts}
 use Rattle.cg_svspec.proofs.NamesLemmas.{none_repeats}
 use Rattle.cg_desc.specs.BlockStep.{EachField}
 use Rattle.cg_desc.specs.declared.block.FieldDesc.{FieldDesc}
@@ -26,20 +25,24 @@ use Rattle.cg_regspec.proofs.WellGiven.{AccessGiven, FieldGiven, ItemGiven, Rows
 abbrev pub NextGiven : Above → RegDesc → FieldDesc → Type 0
 NextGiven e r f = r.hwext ≡ false → Has e (next_net r f) (width_of f)
 
+-- of each field of an item
 abbrev pub ItemNext : Above → Item → Type 0
 ItemNext e (Reg r) = EachField (NextGiven e r) r.fields
 ItemNext e (Window w) = Unit {0}
 ItemNext e (SkipTo to at) = Unit {0}
 ItemNext e (Reserved words at) = Unit {0}
 
+-- of all rows
 abbrev pub RowsNext : Above → List LaidRow → Type 0
 RowsNext e [] = Unit {0}
 RowsNext e (row ∷ rows) = ItemNext e row.item × RowsNext e rows
 
+-- a field that is not external has it among its entries
 next_by : (e : Above) (external : Bool) (i : ℕ) (r : RegDesc) (f : FieldDesc) → AllOf (GivenBy e) (cond external [] (field_updates i r f)) → external ≡ false → Has e (next_net r f) (width_of f)
 next_by e true i r f given is = cc
 next_by e false i r f given is = given.1.0
 
+-- of all fields of a register
 fields_next : (e : Above) (i : ℕ) (r : RegDesc) (fs : List FieldDesc) → AllOf (GivenBy e) (fields_entries i r fs) → EachField (NextGiven e r) fs
 fields_next e i r [] given = tt
 fields_next e i r (f ∷ fs) given = (
@@ -47,12 +50,14 @@ fields_next e i r (f ∷ fs) given = (
   fields_next e i r fs (all_back (GivenBy e) (field_entries i r f) (fields_entries i r fs) given),
 )
 
+-- of an item
 item_next : (e : Above) (i : ℕ) (item : Item) → AllOf (GivenBy e) (item_fields i item) → ItemNext e item
 item_next e i (Reg r) given = fields_next e i r r.fields given
 item_next e i (Window w) given = tt
 item_next e i (SkipTo to at) given = tt
 item_next e i (Reserved words at) given = tt
 
+-- and of all rows
 pub rows_next : (e : Above) (i : ℕ) (rows : List LaidRow) → AllOf (GivenBy e) (rows_fields i rows) → RowsNext e rows
 rows_next e i [] given = tt
 rows_next e i (row ∷ rows) given = (
@@ -69,11 +74,11 @@ literal_parameter w v h = by (eqb w 0) refl where
   by true is = let none : w ≡ 0 = eqb-true w 0 is in absurd (omega (arith, h.0))
   by false is = h
 
+-- a flip-flop is printable
 flop_printable : {e : Above} (r : RegDesc) (f : FieldDesc) → IsWord r.name → FieldFits f → Has e (codes "clk_i") 1 → Has e (codes "rst_ni") 1 → Has e (next_net r f) (width_of f)
     → Has e (state_net r f) (width_of f) → IsPrintableEntry (flop_of r f)
 flop_printable r f word fit clock reset next state =
-    let shallow : 1 ≤ 128 = omega arith in
-    (
+    let shallow : 1 ≤ 128 = omega arith in (
       literal_name (codes "prim_flop") refl refl,
       (
         (literal_name (codes "Width") refl refl, omega (arith, field_narrow f fit)),
@@ -83,12 +88,17 @@ flop_printable r f word fit clock reset next state =
       tt,
       (
         (literal_name (codes "clk_i") refl refl, (clock.declared.name, shallow)),
-        ((literal_name (codes "rst_ni") refl refl, (reset.declared.name, shallow)),
-        ((literal_name (codes "d_i") refl refl, (next.declared.name, shallow)),
-        ((literal_name (codes "q_o") refl refl, (state.declared.name, shallow)), tt))),
+        (
+          (literal_name (codes "rst_ni") refl refl, (reset.declared.name, shallow)),
+          (
+            (literal_name (codes "d_i") refl refl, (next.declared.name, shallow)),
+            ((literal_name (codes "q_o") refl refl, (state.declared.name, shallow)), tt),
+          ),
+        ),
       ),
     )
 
+-- a flip-flop fits
 flop_sounds : {inputs : List (List ℕ)} {e : Above} {es : List Entry} (r : RegDesc) (f : FieldDesc) → IsWord r.name → FieldFits f → Has e (codes "clk_i") 1 → Has e (codes "rst_ni") 1
     → Has e (next_net r f) (width_of f) → Has e (state_net r f) (width_of f) → Sounds inputs e es → Sounds inputs e (flop_of r f ∷ es)
 flop_sounds {inputs} {e} {es} r f word fit clock reset next state later = record {
@@ -112,6 +122,7 @@ flop_sounds {inputs} {e} {es} r f word fit clock reset next state later = record
   );
 }
 
+-- the flip-flops of a register fit
 fields_flops_sound : {inputs : List (List ℕ)} (b c e : Above) (r : RegDesc) (fs : List FieldDesc) → AccessGiven b → EachField (FieldGiven b r) fs → EachField (NextGiven c r) fs → Up b e → Up c e
     → IsWord r.name → EachField FieldFits fs → r.hwext ≡ false → Sounds inputs e (flops_of r fs)
 fields_flops_sound b c e r [] access given next up cup word fit stored = sounds_none
@@ -124,6 +135,7 @@ flops_by : {inputs : List (List ℕ)} (e : Above) (external : Bool) (es : List E
 flops_by e true es s = sounds_none
 flops_by e false es s = s refl
 
+-- those of an item
 item_flops_sound : {inputs : List (List ℕ)} (b c e : Above) (all : List LaidRow) (first : ℕ) (item : Item) → AccessGiven b → ItemGiven b item → ItemNext c item → Up b e → Up c e → ItemOk all first item
     → Sounds inputs e (item_flops item)
 item_flops_sound b c e all first (Reg r) access given next up cup ok =

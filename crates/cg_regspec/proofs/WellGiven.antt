@@ -1,10 +1,10 @@
 -- What stands above the entries of a register module: its ports, and the wires of its states.
-use Rattle.std.proofs.Common.{◌≡◌, ℕ, Bool, true, false, cond, ◌⊎◌, inl, inr, List, [], ◌∷◌, ◌++◌, refl, codes}
+use Rattle.std.proofs.Common.{◌≡◌, ℕ, Bool, true, false, cond, inl, inr, List, [], ◌∷◌, ◌++◌, refl, codes}
 use Rattle.cg_svspec.specs.Names.{Among}
 use Rattle.cg_svspec.specs.Printable.{IsPrintablePort, AllOf}
 use Rattle.cg_svspec.specs.Tree.{Port, Entry, wire, drive, assign, inst}
 use Rattle.cg_svspec.specs.Register.{access_ports, input_port, output_port}
-use Rattle.cg_svspec.specs.WellFormed.{Net, Declares, port_nets, inputs_of}
+use Rattle.cg_svspec.specs.WellFormed.{Declares, port_nets, inputs_of}
 use Rattle.cg_desc.specs.BlockStep.{shows_q, shows_qe, shows_re, EachField}
 use Rattle.cg_desc.specs.declared.block.FieldDesc.{FieldDesc}
 use Rattle.cg_desc.specs.declared.block.RegDesc.{RegDesc}
@@ -31,6 +31,7 @@ ports_given e [] printable nets known = tt
 ports_given e (p ∷ ps) printable nets known = by (ports_given e ps printable.1 (λ n w d. nets n w (inr d))) p.input known where
   declared : Declared e p.name p.width
   declared = record { name = printable.0.1; net = nets p.name p.width (inl (refl, refl)) }
+
   by : (((n : List ℕ) → Among n (inputs_of ps) → Among n e.known) → AllOf (PortGiven e) ps) → (b : Bool)
       → ((n : List ℕ) → Among n (cond b (p.name ∷ inputs_of ps) (inputs_of ps)) → Among n e.known)
       → cond b (Has e p.name p.width) (Declared e p.name p.width) × AllOf (PortGiven e) ps
@@ -44,6 +45,7 @@ StateGiven e (drive w n x) = Unit {0}
 StateGiven e (assign n x) = Unit {0}
 StateGiven e (inst m ps n cs) = Unit {0}
 
+-- states stand above where their wires are declared and their names known
 pub states_given : (e : Above) (es : List Entry) → AllOf (GivenBy e) es → ((n : List ℕ) → Among n (plain_of es) → Among n e.known) → AllOf (StateGiven e) es
 states_given e [] given known = tt
 states_given e (wire w n ∷ es) given known = (record { declared = given.0; known = known n (inl refl) }, states_given e es given.1 (λ m a. known m (inr a)))
@@ -65,6 +67,7 @@ pub record AccessGiven (e : Above) : Type 0 where
   pub data_out : Declared e reg_rdata 32
   pub fault : Declared e reg_error 1
 
+-- the ports of the access are the first ones
 pub access_given : (e : Above) (others : List Port) → AllOf (PortGiven e) (access_ports ++ others) → AccessGiven e
 access_given e others h = record {
   clock = h.0;
@@ -87,6 +90,7 @@ pub record FieldGiven (e : Above) (r : RegDesc) (f : FieldDesc) : Type 0 where
   pub write_seen : shows_qe r f ≡ true → Declared e (qe_net r f) 1
   pub read_seen : shows_re r f ≡ true → Declared e (re_net r f) 1
 
+-- of each field of a register
 abbrev pub RegisterGiven : Above → RegDesc → Type 0
 RegisterGiven e r = EachField (FieldGiven e r) r.fields
 
@@ -99,12 +103,14 @@ pub record WindowGiven (e : Above) (w : WindowDesc) : Type 0 where
   pub strobes : Declared e (window_be w) 4
   pub read_data : Has e (window_rdata w) 32
 
+-- of an item
 abbrev pub ItemGiven : Above → Item → Type 0
 ItemGiven e (Reg r) = RegisterGiven e r
 ItemGiven e (Window w) = WindowGiven e w
 ItemGiven e (SkipTo to at) = Unit {0}
 ItemGiven e (Reserved words at) = Unit {0}
 
+-- of all rows
 abbrev pub RowsGiven : Above → List LaidRow → Type 0
 RowsGiven e [] = Unit {0}
 RowsGiven e (row ∷ rows) = ItemGiven e row.item × RowsGiven e rows
@@ -114,6 +120,7 @@ there : (P : Port → Type 0) (b : Bool) (p : Port) → AllOf P (port_if b p) �
 there P true p h e = h.0
 there P false p h e = cc
 
+-- the nets of the fields of a register, from its ports and states
 fields_given : (e : Above) (r : RegDesc) (fs : List FieldDesc) → AllOf (PortGiven e) (fields_ports r fs) → (r.hwext ≡ false → AllOf (StateGiven e) (states_of r fs))
     → EachField (FieldGiven e r) fs
 fields_given e r [] ports states = tt
@@ -127,8 +134,7 @@ fields_given e r (f ∷ fs) ports states =
     let here : AllOf P (q ++ (qe ++ (re ++ (d ++ de)))) = all_front P (field_ports r f) (fields_ports r fs) ports in
     let second : AllOf P (qe ++ (re ++ (d ++ de))) = all_back P q _ here in
     let third : AllOf P (re ++ (d ++ de)) = all_back P qe _ second in
-    let fourth : AllOf P (d ++ de) = all_back P re _ third in
-    (
+    let fourth : AllOf P (d ++ de) = all_back P re _ third in (
       record {
         state = λ stored. (states stored).0;
         brought = there P (takes_d r f) _ (all_front P d de fourth);
@@ -145,6 +151,7 @@ stored_states : (e : Above) (b : Bool) (es : List Entry) → AllOf (StateGiven e
 stored_states e true es h is = cc
 stored_states e false es h is = h
 
+-- those of an item
 item_given : (e : Above) (item : Item) → AllOf (PortGiven e) (item_ports item) → AllOf (StateGiven e) (item_states item) → ItemGiven e item
 item_given e (Reg r) ports states = fields_given e r r.fields ports (stored_states e r.hwext (states_of r r.fields) states)
 item_given e (Window w) ports states =
@@ -152,6 +159,7 @@ item_given e (Window w) ports states =
 item_given e (SkipTo to at) ports states = tt
 item_given e (Reserved words at) ports states = tt
 
+-- those of all rows
 pub rows_given : (e : Above) (rows : List LaidRow) → AllOf (PortGiven e) (rows_ports rows) → AllOf (StateGiven e) (rows_states rows) → RowsGiven e rows
 rows_given e [] ports states = tt
 rows_given e (row ∷ rows) ports states = (

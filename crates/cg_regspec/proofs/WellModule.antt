@@ -1,9 +1,9 @@
 -- The register module of a laid interface is well formed where none of its names repeats, and it is a register module.
-use Rattle.std.proofs.Common.{◌≡◌, ℕ, ◌+◌, ◌*◌, ◌^◌, ◌≤◌, Bool, true, false, cond, List, [], ◌∷◌, ◌++◌, length, refl, sym, subst, arith, None}
+use Rattle.std.proofs.Common.{◌≡◌, ℕ, ◌^◌, ◌≤◌, Bool, true, false, cond, List, [], ◌∷◌, ◌++◌, length, refl, sym, subst, arith, None}
 use Rattle.cg_svspec.specs.Characters.{IsName}
 use Rattle.cg_svspec.specs.Names.{Among, Differ, module_names, first_repeat}
-use Rattle.cg_svspec.specs.Printable.{AllOf, IsPrintablePort, IsPrintable}
-use Rattle.cg_svspec.specs.Tree.{Port, Entry, wire, drive, assign, inst, Module}
+use Rattle.cg_svspec.specs.Printable.{AllOf}
+use Rattle.cg_svspec.specs.Tree.{Port, Entry, wire, drive, assign, inst}
 use Rattle.cg_svspec.specs.WellFormed.{port_nets, inputs_of, instance_driven, WellFormed}
 use Rattle.cg_svspec.specs.Register.{access_ports, IsRegisterEntry, IsRegister}
 use Rattle.cg_svspec.proofs.NamesLemmas.{among_front, among_back, none_repeats}
@@ -17,7 +17,7 @@ use Rattle.cg_desc.specs.declared.block.LaidRow.{LaidRow}
 use Rattle.cg_desc.specs.declared.block.LaidFace.{LaidFace}
 use Rattle.cg_regspec.specs.RegisterModule.{rows_ports, states_of, item_states, rows_states, rows_entries, all_ones, answer_entries, rows_fields, rows_windows, flops_of, item_flops, rows_flops, register_entries, register_module}
 use Rattle.cg_regspec.proofs.Parts.{all_back, all_join}
-use Rattle.cg_regspec.proofs.WellCounts.{plain_of, balanced_drivers_differ, balanced_outputs_driven, balanced_wires_driven, balanced_inputs_free}
+use Rattle.cg_regspec.proofs.WellCounts.{balanced_drivers_differ, balanced_outputs_driven, balanced_wires_driven, balanced_inputs_free}
 use Rattle.cg_regspec.proofs.WellDrivers.{IsDriven, rows_driven, answers_driven, rows_fields_driven, rows_windows_driven, module_instances, module_balanced}
 use Rattle.cg_regspec.proofs.WellSound.{Above, Up, same_up, up_up, after, up_after, Sounds, sounds_join, all_given}
 use Rattle.cg_regspec.proofs.WellRows.{FieldFits, field_narrow, ItemOk, RowsOk, rows_few, rows_ok}
@@ -33,6 +33,7 @@ use Rattle.cg_regspec.proofs.WellFlops.{rows_next, rows_flops_sound}
 abbrev module_ports : LaidFace → List Port
 module_ports face = access_ports ++ rows_ports face.rows
 
+-- the inputs
 abbrev module_inputs : LaidFace → List (List ℕ)
 module_inputs face = inputs_of (module_ports face)
 
@@ -40,6 +41,7 @@ module_inputs face = inputs_of (module_ports face)
 abbrev first_above : LaidFace → Above
 first_above face = record { nets = port_nets (module_ports face); known = module_inputs face ++ instance_driven (module_inputs face) (register_entries face) }
 
+-- all ports are printable
 ports_fit : (face : LaidFace) → RowsOk face.rows face.rows → AllOf PortFits (module_ports face)
 ports_fit face ok = all_join PortFits access_ports (rows_ports face.rows) access_ports_fit (rows_ports_fit face.rows face.rows ok)
 
@@ -69,7 +71,7 @@ entries_sound face some few ok =
     let states_sound : Sounds ins e0 states = rows_states_sound e0 rows rows ok in
     let ports = ports_given e1 (module_ports face) (ports_printable (module_ports face) (ports_fit face ok)) up1.nets (λ n a. up1.known n (among_front n ins driven a)) in
     let wires_of_states = states_given e1 states (all_given e0 states states_sound.printable)
-        (λ n a. up1.known n (among_back n ins driven (subst (λ z. Among n z) (sym (module_instances ins face)) a))) in
+    (λ n a. up1.known n (among_back n ins driven (subst (λ z. Among n z) (sym (module_instances ins face)) a))) in
     let access = access_given e1 (rows_ports rows) ports in
     let given = rows_given e1 rows (all_back (PortGiven e1) access_ports (rows_ports rows) ports) wires_of_states in
     let wires_sound : Sounds ins e1 wires = rows_sound e1 rows access given e1 (same_up e1) 0 all_ones (λ f up. ones_sound 1 (omega arith)) rows ok given in
@@ -124,35 +126,42 @@ stored_by : (external : Bool) (es : List Entry) → AllOf IsRegisterEntry es →
 stored_by true es a = tt
 stored_by false es a = a
 
+-- the wires of states are entries of a register module
 states_entries : (r : RegDesc) (fs : List FieldDesc) → AllOf IsRegisterEntry (states_of r fs)
 states_entries r [] = tt
 states_entries r (f ∷ fs) = (tt, states_entries r fs)
 
+-- those of an item
 item_states_entries : (item : Item) → AllOf IsRegisterEntry (item_states item)
 item_states_entries (Reg r) = stored_by r.hwext (states_of r r.fields) (states_entries r r.fields)
 item_states_entries (Window w) = tt
 item_states_entries (SkipTo to at) = tt
 item_states_entries (Reserved words at) = tt
 
+-- those of all rows
 rows_states_entries : (rows : List LaidRow) → AllOf IsRegisterEntry (rows_states rows)
 rows_states_entries [] = tt
 rows_states_entries (row ∷ rows) = all_join IsRegisterEntry (item_states row.item) (rows_states rows) (item_states_entries row.item) (rows_states_entries rows)
 
+-- so are flip-flops of at most 32 bits
 flops_entries : (r : RegDesc) (fs : List FieldDesc) → EachField FieldFits fs → AllOf IsRegisterEntry (flops_of r fs)
 flops_entries r [] fit = tt
 flops_entries r (f ∷ fs) fit = ((refl, field_narrow f fit.0), flops_entries r fs fit.1)
 
+-- those of an item
 item_flops_entries : (all : List LaidRow) (first : ℕ) (item : Item) → ItemOk all first item → AllOf IsRegisterEntry (item_flops item)
 item_flops_entries all first (Reg r) ok = stored_by r.hwext (flops_of r r.fields) (flops_entries r r.fields ok.each)
 item_flops_entries all first (Window w) ok = tt
 item_flops_entries all first (SkipTo to at) ok = absurd ok
 item_flops_entries all first (Reserved words at) ok = absurd ok
 
+-- those of all rows
 rows_flops_entries : (all rows : List LaidRow) → RowsOk all rows → AllOf IsRegisterEntry (rows_flops rows)
 rows_flops_entries all [] ok = tt
 rows_flops_entries all (row ∷ rows) ok =
     all_join IsRegisterEntry (item_flops row.item) (rows_flops rows) (item_flops_entries all row.first row.item ok.0) (rows_flops_entries all rows ok.1)
 
+-- so are all entries of the module
 module_entries : (face : LaidFace) → RowsOk face.rows face.rows → AllOf IsRegisterEntry (register_entries face)
 module_entries face ok =
     let wires : List Entry = rows_entries face.rows 0 all_ones face.rows in

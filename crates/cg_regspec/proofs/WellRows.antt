@@ -1,9 +1,9 @@
 -- What the rows of a laid interface have: widths of fields, places of rows, and their number.
-use Rattle.std.proofs.Common.{◌≡◌, ℕ, suc, ◌+◌, ◌-◌, ◌*◌, ◌/◌, ◌^◌, ◌<◌, ◌≤◌, List, [], ◌∷◌, length, refl, arith}
+use Rattle.std.proofs.Common.{ℕ, suc, ◌+◌, ◌*◌, ◌^◌, ◌<◌, ◌≤◌, List, [], ◌∷◌, length, arith}
 use Rattle.cg_svspec.specs.Characters.{IsWord}
-use Rattle.cg_svspec.specs.Printable.{IsWidth, IsLiteral}
+use Rattle.cg_svspec.specs.Printable.{IsWidth}
 use Rattle.cg_desc.specs.BlockStep.{EachField, highest_bit}
-use Rattle.cg_desc.specs.Laid.{FieldsFit, HasField, GateFits, RegisterFits, WindowFits, RowFits, RowsFit}
+use Rattle.cg_desc.specs.Laid.{FieldsFit, HasField, GateFits, RowFits, RowsFit}
 use Rattle.cg_desc.specs.declared.block.FieldDesc.{FieldDesc}
 use Rattle.cg_desc.specs.declared.block.RegDesc.{RegDesc}
 use Rattle.cg_desc.specs.declared.block.WindowDesc.{WindowDesc}
@@ -19,6 +19,7 @@ pub record FieldFits (f : FieldDesc) : Type 0 where
   pub low : f.msb < 32
   pub reset : f.resval < 2 ^ width_of f
 
+-- each of the fields of a register
 pub each_fits : (from : ℕ) (fs : List FieldDesc) → FieldsFit from fs → EachField FieldFits fs
 each_fits from [] fit = tt
 each_fits from (f ∷ fs) fit = (record { word = fit.0; order = fit.2; low = fit.3; reset = fit.4 }, each_fits (suc f.msb) fs fit.5)
@@ -27,9 +28,11 @@ each_fits from (f ∷ fs) fit = (record { word = fit.0; order = fit.2; low = fit
 pub field_some : (f : FieldDesc) → FieldFits f → 0 < width_of f
 field_some f fit = omega (arith, fit.order)
 
+-- and at most 32
 pub field_narrow : (f : FieldDesc) → FieldFits f → width_of f ≤ 32
 field_narrow f fit = omega (arith, fit.low)
 
+-- which is a width
 pub field_width : (f : FieldDesc) → FieldFits f → IsWidth (width_of f)
 field_width f fit = (field_some f fit, omega (arith, field_narrow f fit))
 
@@ -54,12 +57,14 @@ pub record WindowOk (first : ℕ) (w : WindowDesc) : Type 0 where
   pub few : w.items ≤ 2 ^ 22
   pub low : first + 4 * w.items ≤ 2 ^ 24
 
+-- an item at its place
 abbrev pub ItemOk : List LaidRow → ℕ → Item → Type 0
 ItemOk all first (Reg r) = RegisterOk all first r
 ItemOk all first (Window w) = WindowOk first w
 ItemOk all first (SkipTo to at) = ⊥
 ItemOk all first (Reserved words at) = ⊥
 
+-- all rows at their places
 abbrev pub RowsOk : List LaidRow → List LaidRow → Type 0
 RowsOk all [] = Unit {0}
 RowsOk all (row ∷ rows) = ItemOk all row.first row.item × RowsOk all rows
@@ -85,6 +90,7 @@ rows_few all low [] fit = omega arith
 rows_few all low (row ∷ rows) fit =
     omega (arith, fit.0, some_words all row.first row.words row.item fit.1, rows_few all (row.first + 4 * row.words) rows fit.2)
 
+-- the rows of a laid interface are so
 pub rows_ok : (all : List LaidRow) (low : ℕ) (rows : List LaidRow) → RowsFit all low rows → RowsOk all rows
 rows_ok all low [] fit = tt
 rows_ok all low (row ∷ rows) fit =

@@ -1,5 +1,5 @@
 -- Expressions and entries that are printable, have their widths, and use only what is known where they stand.
-use Rattle.std.proofs.Common.{◌≡◌, ℕ, suc, ◌+◌, ◌-◌, ◌^◌, ◌<◌, ◌≤◌, max, eqb, Bool, true, false, cond, ◌&&◌, ◌⊎◌, inl, inr, List, [], ◌∷◌, ◌++◌, refl, ap, sym, subst, ◌∙◌, arith}
+use Rattle.std.proofs.Common.{◌≡◌, ℕ, suc, ◌+◌, ◌-◌, ◌^◌, ◌<◌, ◌≤◌, max, eqb, Bool, true, false, cond, ◌&&◌, inl, inr, List, [], ◌∷◌, ◌++◌, refl, subst, arith}
 use Rattle.std.proofs.lemmas.Bool.{eqb-true, and_parts}
 use Rattle.cg_svspec.specs.Characters.{IsName}
 use Rattle.cg_svspec.specs.Names.{Among}
@@ -30,15 +30,19 @@ pub record Has (e : Above) (n : List ℕ) (w : ℕ) : Type 0 where
   pub declared : Declared e n w
   pub known : Among n e.known
 
+-- what stands above stands there
 pub same_up : (e : Above) → Up e e
 same_up e = record { nets = λ n w d. d; known = λ n a. a }
 
+-- and above what follows
 pub up_up : {e f g : Above} → Up e f → Up f g → Up e g
 up_up a b = record { nets = λ n w d. b.nets n w (a.nets n w d); known = λ n k. b.known n (a.known n k) }
 
+-- so does a declared net
 pub declared_up : {e f : Above} {n : List ℕ} {w : ℕ} → Up e f → Declared e n w → Declared f n w
 declared_up {e} {f} {n} {w} up d = record { name = d.name; net = up.nets n w d.net }
 
+-- and one that may be used
 pub has_up : {e f : Above} {n : List ℕ} {w : ℕ} → Up e f → Has e n w → Has f n w
 has_up {e} {f} {n} {w} up h = record { declared = declared_up up h.declared; known = up.known n h.known }
 
@@ -58,12 +62,15 @@ pub record SoundParts (e : Above) (d : ℕ) (xs : Expressions) (w : ℕ) : Type 
   pub width : PartsHaveWidth e.nets xs w
   pub uses : UsesAll e.known xs
 
+-- a bound of the depth may be larger
 pub sound_deeper : {e : Above} {c d w : ℕ} {x : Expression} → Sound e c x w → c ≤ d → Sound e d x w
 sound_deeper s h = record { printable = s.printable; deep = omega (arith, s.deep); width = s.width; uses = s.uses }
 
+-- a bare net
 pub sound_net : {e : Above} {n : List ℕ} {w : ℕ} (d : ℕ) → 0 < d → Has e n w → Sound e d (net n) w
 sound_net d some h = record { printable = h.declared.name; deep = some; width = h.declared.net; uses = h.known }
 
+-- a cut of a net of more than one bit
 pub sound_cut : {e : Above} {n : List ℕ} {u : ℕ} (d m l w : ℕ) → 0 < d → Has e n u → 1 < u → u ≤ 2 ^ 16 → m < u → l ≤ m → w ≡ suc m - l → Sound e d (cut n m l) w
 sound_cut {e} {n} {u} d m l w some h wide small low order is = record {
   printable = (h.declared.name, omega arith, omega arith);
@@ -72,12 +79,15 @@ sound_cut {e} {n} {u} d m l w some h wide small low order is = record {
   uses = h.known;
 }
 
+-- a literal
 pub sound_lit : {e : Above} (d w v : ℕ) → 0 < d → IsLiteral w v → Sound e d (lit w v) w
 sound_lit d w v some h = record { printable = h; deep = some; width = refl; uses = tt }
 
+-- each bit turned
 pub sound_inv : {e : Above} {x : Expression} {d w : ℕ} → Sound e d x w → Sound e (suc d) (inv x) w
 sound_inv s = record { printable = s.printable; deep = omega (arith, s.deep); width = s.width; uses = s.uses }
 
+-- the or of all bits
 pub sound_any : {e : Above} {x : Expression} {d w : ℕ} → Sound e d x w → Sound e (suc d) (any x) 1
 sound_any {e} {x} {d} {w} s = record { printable = s.printable; deep = omega (arith, s.deep); width = (refl, (w, s.width)); uses = s.uses }
 
@@ -85,21 +95,26 @@ sound_any {e} {x} {d} {w} s = record { printable = s.printable; deep = omega (ar
 both_deep : (a b d : ℕ) → a ≤ d → b ≤ d → suc (max a b) ≤ suc d
 both_deep a b d p q = omega arith
 
+-- the and of two expressions of one width
 pub sound_and : {e : Above} {x y : Expression} {d w : ℕ} → Sound e d x w → Sound e d y w → Sound e (suc d) (and x y) w
 sound_and {e} {x} {y} {d} {w} s t =
     record { printable = (s.printable, t.printable); deep = both_deep (depth x) (depth y) d s.deep t.deep; width = (s.width, t.width); uses = (s.uses, t.uses) }
 
+-- the or of two
 pub sound_or : {e : Above} {x y : Expression} {d w : ℕ} → Sound e d x w → Sound e d y w → Sound e (suc d) (or x y) w
 sound_or {e} {x} {y} {d} {w} s t =
     record { printable = (s.printable, t.printable); deep = both_deep (depth x) (depth y) d s.deep t.deep; width = (s.width, t.width); uses = (s.uses, t.uses) }
 
+-- their equality
 pub sound_equal : {e : Above} {x y : Expression} {d w : ℕ} → Sound e d x w → Sound e d y w → Sound e (suc d) (equal x y) 1
 sound_equal {e} {x} {y} {d} {w} s t =
     record { printable = (s.printable, t.printable); deep = both_deep (depth x) (depth y) d s.deep t.deep; width = (refl, (w, s.width, t.width)); uses = (s.uses, t.uses) }
 
+-- the deepest of three is so deep
 all_deep : (a b c d : ℕ) → a ≤ d → b ≤ d → c ≤ d → suc (max a (max b c)) ≤ suc d
 all_deep a b c d p q r = omega arith
 
+-- a condition
 pub sound_pick : {e : Above} {c x y : Expression} {d w : ℕ} → Sound e d c 1 → Sound e d x w → Sound e d y w → Sound e (suc d) (pick c x y) w
 sound_pick {e} {c} {x} {y} {d} {w} r s t = record {
   printable = (r.printable, s.printable, t.printable);
@@ -108,12 +123,15 @@ sound_pick {e} {c} {x} {y} {d} {w} r s t = record {
   uses = (r.uses, s.uses, t.uses);
 }
 
+-- no parts
 pub sound_none : {e : Above} (d : ℕ) → SoundParts e d none 0
 sound_none d = record { printable = tt; deep = omega arith; width = refl; uses = tt }
 
+-- parts are no deeper than the deepest
 part_deep : (a b d : ℕ) → a ≤ d → b ≤ d → max a b ≤ d
 part_deep a b d p q = omega arith
 
+-- one part more
 pub sound_more : {e : Above} {x : Expression} {xs : Expressions} {d a b : ℕ} (w : ℕ) → Sound e d x a → SoundParts e d xs b → w ≡ a + b → SoundParts e d (more x xs) w
 sound_more {e} {x} {xs} {d} {a} {b} w s t is = record {
   printable = (s.printable, t.printable);
@@ -127,10 +145,12 @@ abbrev pub HasPart : Expressions → Type 0
 HasPart none = ⊥
 HasPart (more x xs) = Unit {0}
 
+-- a concatenation with a part is printable
 cat_printable : (xs : Expressions) → HasPart xs → ArePrintable xs → IsPrintableExpression (cat xs)
 cat_printable none some h = absurd some
 cat_printable (more x xs) some h = h
 
+-- a concatenation
 pub sound_cat : {e : Above} {xs : Expressions} {d w : ℕ} → HasPart xs → w < 2 ^ 32 → SoundParts e d xs w → Sound e (suc d) (cat xs) w
 sound_cat {e} {xs} {d} {w} some low s = record { printable = cat_printable xs some s.printable; deep = omega (arith, s.deep); width = (low, s.width); uses = s.uses }
 
@@ -152,9 +172,11 @@ sound_slice {e} {n} d width msb lsb some h wide small low order = by (eqb lsb 0 
 abbrev pub with_wire : Above → List ℕ → ℕ → Above
 with_wire e n w = record { nets = stated n w ∷ e.nets; known = e.known }
 
+-- a wire with an expression
 abbrev pub with_drive : Above → List ℕ → ℕ → Above
 with_drive e n w = record { nets = stated n w ∷ e.nets; known = n ∷ e.known }
 
+-- an assignment
 abbrev pub with_assign : Above → List ℕ → Above
 with_assign e n = record { nets = e.nets; known = n ∷ e.known }
 
@@ -166,15 +188,19 @@ after e (drive w n x ∷ es) = after (with_drive e n w) es
 after e (assign n x ∷ es) = after (with_assign e n) es
 after e (inst m ps n cs ∷ es) = after e es
 
+-- what stands above a wire stands above what follows
 pub up_wire : (e : Above) (n : List ℕ) (w : ℕ) → Up e (with_wire e n w)
 up_wire e n w = record { nets = λ m u d. inr d; known = λ m a. a }
 
+-- with an expression
 pub up_drive : (e : Above) (n : List ℕ) (w : ℕ) → Up e (with_drive e n w)
 up_drive e n w = record { nets = λ m u d. inr d; known = λ m a. inr a }
 
+-- of an assignment
 pub up_assign : (e : Above) (n : List ℕ) → Up e (with_assign e n)
 up_assign e n = record { nets = λ m u d. d; known = λ m a. inr a }
 
+-- of any entries
 pub up_after : (e : Above) (es : List Entry) → Up e (after e es)
 up_after e [] = same_up e
 up_after e (wire w n ∷ es) = up_up (up_wire e n w) (up_after (with_wire e n w) es)
@@ -191,17 +217,21 @@ pub record Sounds (inputs : List (List ℕ)) (e : Above) (es : List Entry) : Typ
   pub printable : AllOf IsPrintableEntry es
   pub fit : EntriesFit inputs e.nets e.known es
 
+-- no entries
 pub sounds_none : {inputs : List (List ℕ)} {e : Above} → Sounds inputs e []
 sounds_none = record { printable = tt; fit = tt }
 
+-- a wire before others
 pub sounds_wire : {inputs : List (List ℕ)} {e : Above} {n : List ℕ} {w : ℕ} {es : List Entry} → IsWidth w → IsName n → Sounds inputs (with_wire e n w) es → Sounds inputs e (wire w n ∷ es)
 sounds_wire wide name later = record { printable = ((wide, name), later.printable); fit = later.fit }
 
+-- a wire with an expression
 pub sounds_drive : {inputs : List (List ℕ)} {e : Above} {n : List ℕ} {d w : ℕ} {x : Expression} {es : List Entry} → IsWidth w → IsName n → d ≤ 128 → Sound e d x w
     → Sounds inputs (with_drive e n w) es → Sounds inputs e (drive w n x ∷ es)
 sounds_drive wide name low s later =
     record { printable = ((wide, name, (s.printable, omega (arith, s.deep))), later.printable); fit = (s.width, s.uses, later.fit) }
 
+-- an assignment
 pub sounds_assign : {inputs : List (List ℕ)} {e : Above} {n : List ℕ} {d w : ℕ} {x : Expression} {es : List Entry} → Declared e n w → d ≤ 128 → Sound e d x w
     → Sounds inputs (with_assign e n) es → Sounds inputs e (assign n x ∷ es)
 sounds_assign {inputs} {e} {n} {d} {w} {x} {es} target low s later =

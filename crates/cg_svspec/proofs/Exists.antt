@@ -16,9 +16,11 @@ use Rattle.cg_svspec.proofs.NamesLemmas.{name_is_itself, same_name, not_chosen, 
 abbrev with_value : Values → List ℕ → Bits → Values
 with_value v n x = λ m. cond (bytes_eq m n) x (v m)
 
+-- the name has that value
 value_here : (v : Values) (n : List ℕ) (x : Bits) → with_value v n x n ≡ x
 value_here v n x = rw (name_is_itself n) refl
 
+-- and the others have theirs
 value_elsewhere : (v : Values) (m n : List ℕ) (x : Bits) → (m ≡ n → ⊥) → with_value v n x m ≡ v m
 value_elsewhere v m n x other = not_chosen (bytes_eq m n) x (v m) (λ e. other (same_name m n e))
 
@@ -103,6 +105,7 @@ still_new : (n : List ℕ) (ns known : List (List ℕ)) → (Among n ns → ⊥)
 still_new n ns known alone new m a (inl e) = alone (subst (λ z. Among z ns) e a)
 still_new n ns known alone new m a (inr b) = new m (inr a) b
 
+-- the entries of a well-formed module are in order where their drivers are new
 in_order : (inputs : List (List ℕ)) (nets : List Net) (known : List (List ℕ)) (es : List Entry) → EntriesFit inputs nets known es → Differ (expression_driven es)
     → ((n : List ℕ) → Among n (expression_driven es) → Among n known → ⊥) → InOrder known es
 in_order inputs nets known [] fit d new = tt
@@ -233,6 +236,7 @@ inputs_hold v inputs (p ∷ ps) same = by (inputs_hold v inputs ps) p.input same
 abbrev start : List (List ℕ) → Values → Values → Values
 start driven inputs state = λ n. cond (is_among driven n) (state n) (inputs n)
 
+-- A well-formed register module has a valuation.
 pub has_valuation : RegisterHasValuation
 has_valuation m well is inputs state fits =
     let ins = inputs_of m.ports in

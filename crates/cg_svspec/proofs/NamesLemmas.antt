@@ -25,6 +25,7 @@ among_by_test (m ∷ ms) n e = by (among_by_test ms n) (bytes_eq m n) refl e whe
   by later true is found = inl (sym (same_name m n is))
   by later false is found = inr (later found)
 
+-- and finds each that is
 pub test_of_among : (ms : List (List ℕ)) (n : List ℕ) → Among n ms → is_among ms n ≡ true
 test_of_among [] n a = absurd a
 test_of_among (m ∷ ms) n (inl e) = rw (e, name_is_itself m) refl
