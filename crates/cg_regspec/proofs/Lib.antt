@@ -13,3 +13,16 @@ pub mod Fields
 pub mod Steps
 pub mod Resets
 pub mod Means
+pub mod WellNames
+pub mod WellCounts
+pub mod WellDrivers
+pub mod WellSound
+pub mod WellRows
+pub mod WellPorts
+pub mod WellGiven
+pub mod WellHits
+pub mod WellEntries
+pub mod WellFields
+pub mod WellFlops
+pub mod WellModule
+pub mod Law

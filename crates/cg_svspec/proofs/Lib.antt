@@ -10,3 +10,5 @@ pub mod ExpressionBack
 pub mod ItemsBack
 pub mod ModulesBack
 pub mod Examples
+pub mod NamesLemmas
+pub mod Exists

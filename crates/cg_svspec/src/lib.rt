@@ -10,6 +10,7 @@
 //! Not promised: that any other tool for SystemVerilog accepts these texts, or reads them the same way.
 #![tactic(auto)]
 
+ghost use Rattle.cg_svspec.specs.Register.{RegisterHasValuation};
 ghost use Rattle.cg_svspec.specs.Stands.{PrintedTextStands, TextStandsForOneList};
 
 /// What is printed stands for just the module that was printed.
@@ -20,4 +21,9 @@ pub fn printed_text_stands()
 /// A text stands for at most one list of modules.
 pub fn text_stands_for_one_list()
     ensures { TextStandsForOneList }
+{}
+
+/// A well-formed register module has a valuation for all inputs and states of their widths.
+pub fn register_has_valuation()
+    ensures { RegisterHasValuation }
 {}
