@@ -16,6 +16,7 @@ use crate::face::plain_face;
 use crate::faults::{clash_due, not_built_due};
 use crate::form::{Form, read_form};
 use cg_base::{List, Memory, Text};
+use cg_regspec::register_module_means;
 use cg_sv::{Module, SvRegFault, print};
 use cg_svreg::face_module;
 use std::alloc::Global;
@@ -75,6 +76,7 @@ fn form_due(alloc: Global, dir: &str, file: &str, text: &[u8], form: &Form) -> R
     requires form { IsForm text.now form.now }
     ensures { IfOk result (λ d. IsDueFor (record { dir = dir.now; file = file.now }) (Some text.now) d) }
 {
+    register_module_means();
     let name = module_name(alloc, form.block.as_str())?;
     let face = plain_face(alloc, form.registers.as_slice())?;
     match face_module(alloc, name.as_str(), &face) {

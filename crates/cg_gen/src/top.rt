@@ -7,6 +7,7 @@ use crate::perform::perform;
 use crate::plan::plan;
 use crate::stop::Stop;
 use cg_base::{Gate, Sink, Source, Steps, Store};
+use cg_regspec::register_module_means;
 use cg_svspec::printed_text_stands;
 use std::alloc::Global;
 use std::sync::ledger::Ledger;
@@ -110,7 +111,13 @@ pub fn run<
             let before : World = world (S.content store.old) (S.read_faults store.old) (S.change_faults store.old) (O.held out.old) (O.faults out.old) (E.held err.old) (E.faults err.old) in
             let after : World = world (S.content store.new) (S.read_faults store.new) (S.change_faults store.new) (O.held out.new) (O.faults out.new) (E.held err.new) (E.faults err.new) in
             Completes result (map string_bytes words.now) before after }
+    // the bytes in the store stand for a module that acts as the block that the description asks for
+    ensures meaning { result ≡ 0 →
+            let before : World = world (S.content store.old) (S.read_faults store.old) (S.change_faults store.old) (O.held out.old) (O.faults out.old) (E.held err.old) (E.faults err.old) in
+            let after : World = world (S.content store.new) (S.read_faults store.new) (S.change_faults store.new) (O.held out.new) (O.faults out.new) (E.held err.new) (E.faults err.new) in
+            WritesMeaning (map string_bytes words.now) before after }
 {
     printed_text_stands();
+    register_module_means();
     code(run_words(alloc, words, store, out, err))
 }
