@@ -1,5 +1,5 @@
 -- The names of a register module's nets are names: words that the grammar does not quote, since they have an underscore.
-use Rattle.std.proofs.Common.{◌≡◌, ℕ, eqb, Bool, true, false, ◌&&◌, ◌||◌, List, [], ◌∷◌, ◌++◌, map, refl, arith, codes}
+use Rattle.std.proofs.Common.{◌≡◌, ℕ, eqb, Bool, true, false, ◌&&◌, ◌||◌, Some, None, List, [], ◌∷◌, ◌++◌, map, refl, arith, codes}
 use Rattle.std.specs.List.{list_all}
 use Rattle.std.specs.Str.{bytes_eq, str_to_ascii_lowercase}
 use Rattle.std.specs.Char.{to_ascii_lowercase}
@@ -13,6 +13,7 @@ use Rattle.cg_desc.specs.declared.block.FieldDesc.{FieldDesc}
 use Rattle.cg_desc.specs.declared.block.RegDesc.{RegDesc}
 use Rattle.cg_desc.specs.declared.block.WindowDesc.{WindowDesc}
 use Rattle.cg_regspec.specs.NetNames.{base, window_base, flop_instance}
+use Rattle.cg_regspec.specs.RegisterModule.{register_module_name}
 
 -- ---- words
 
@@ -160,3 +161,18 @@ window_characters w end a e =
 pub window_name : (w : WindowDesc) (end : List ℕ) → IsWord w.name → list_all is_name_character end ≡ true → IsName (window_base w ++ end)
 unfolding window_base
 window_name w end a e = prefix_name (codes "win_") (str_to_ascii_lowercase w.name ++ end) refl refl (window_characters w end a e)
+
+-- ---- the module
+
+-- the name of the register module of a block's only interface without a name
+pub block_module_name : (block : List ℕ) → IsWord block → IsName (register_module_name block None)
+block_module_name block w =
+    word_is_name (block ++ codes "_reg_top") (word_join block (codes "_reg_top") w (each_passes is_name_character (codes "_reg_top") refl)) (underscore_back block (codes "_reg_top") refl)
+
+-- and of an interface with a name
+pub interface_module_name : (block interface : List ℕ) → IsWord block → IsWord interface → IsName (register_module_name block (Some interface))
+interface_module_name block interface w i =
+    let end : List ℕ = codes "_" ++ (interface ++ codes "_reg_top") in
+    word_is_name (block ++ end)
+    (word_join block end w (refl, each_join is_name_character interface (codes "_reg_top") (word_characters interface i) (each_passes is_name_character (codes "_reg_top") refl)))
+    (underscore_back block end refl)
