@@ -35,11 +35,11 @@ module _ (text : List ℕ) (f : Form) (is : IsForm text f) (name : List ℕ) (fa
       subst IsPrintable (sym (made ∙ made_is f name face named rows)) (form_means law text f is (repeats None apart) 0).well_formed.printable
 
   pub form_built : (c : Regtool) (d : Due) (m : Module) → length text ≤ limit → m ≡ register_module name face → first_repeat (module_names (register_module name face)) ≡ None
-      → d ≡ due_of_outputs c.dir (record { name = name ++ codes ".sv"; bytes = module_text m } ∷ []) → IsDueFor c (Some text) d
-  form_built c d m few made apart due =
+      → (told : List ℕ) → told ≡ name → d ≡ due_of_outputs c.dir (record { name = told ++ codes ".sv"; bytes = module_text m } ∷ []) → IsDueFor c (Some text) d
+  form_built c d m few made apart told is_told due =
       let same : m ≡ form_module f = made ∙ made_is f name face named rows in
       built_is_due c text f d few is (repeats None apart)
-          (due ∙ (λ i. due_of_outputs c.dir (record { name = named i ++ codes ".sv"; bytes = module_text (same i) } ∷ [])))
+          (due ∙ (λ i. due_of_outputs c.dir (record { name = (is_told ∙ named) i ++ codes ".sv"; bytes = module_text (same i) } ∷ [])))
 
   pub form_clashes : (c : Regtool) (d : Due) (clash : List ℕ) → length text ≤ limit → first_repeat (module_names (register_module name face)) ≡ Some clash
       → d ≡ due_of_fault c.file (clash_fault text clash) → IsDueFor c (Some text) d

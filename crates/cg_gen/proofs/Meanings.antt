@@ -15,7 +15,9 @@ use Rattle.cg_gen.specs.Command.{Regtool, command_of}
 use Rattle.cg_gen.specs.Due.{IsDueFor, refuses, builds, Gave, IsDue, no_command, command, stored_name, due_of_outputs}
 use Rattle.cg_gen.specs.Form.{IsForm}
 use Rattle.cg_gen.specs.Meaning.{WritesBlock, WritesMeaning}
-use Rattle.cg_gen.specs.Run.{World, Performs, changed}
+use Rattle.cg_gen.specs.Run.{World, Performs, Ends, code_of, changed}
+use Rattle.cg_gen.specs.declared.ending.Ending.{Ending}
+use Rattle.cg_gen.specs.declared.ending.Ending.TheVariants.{Built, Refused, NoCommand, ReadFailed, WriteFailed, Memory}
 use Rattle.cg_gen.proofs.PlainFaces.{plain-IsLaid, top-IsName}
 
 -- the module of a form acts as its block
@@ -47,11 +49,21 @@ written_block stand law words m after c _ _ is_c gave (built {text} f few is apa
 
 by_due : PrintedTextStands → RegisterModuleMeans → (words : List (List ℕ)) (m : Files) (after : Option Files) (due : Due) → IsDue words (Some m) due → due.status ≡ 0
     → after ≡ changed (Some m) due.changes → WritesBlock words m after
-by_due stand law words m after _ (no_command is) status files = let bad : 2 ≡ 0 = status in cc
-by_due stand law words m after _ (command c given is gave (refuses fault first)) status files = let bad : 1 ≡ 0 = status in cc
+by_due stand law words m after _ (no_command is) status files = let bad : ◌≡◌ {A = ℕ} 2 0 = status in cc
+by_due stand law words m after _ (command c given is gave (refuses fault first)) status files = let bad : ◌≡◌ {A = ℕ} 1 0 = status in cc
 by_due stand law words m after _ (command c given is gave (builds outputs is_built)) status files =
     written_block stand law words m after c given outputs is (gave m refl) is_built files
 
 pub performed_means : PrintedTextStands → RegisterModuleMeans → (words : List (List ℕ)) (before after : World) → Performs 0 words before after → WritesMeaning words before after
 performed_means stand law words before after p m told =
     by_due stand law words m after.files p.due (subst (λ files. IsDue words files p.due) told p.is_due) p.is_status (p.is_done.files ∙ ap (λ files. changed files p.due.changes) told)
+
+-- a run that ends with status 0
+pub ended_means : PrintedTextStands → RegisterModuleMeans → (words : List (List ℕ)) (before after : World) (e : Ending) (status : ℕ) → Ends e words before after → status ≡ code_of e → status ≡ 0
+    → WritesMeaning words before after
+ended_means stand law words before after Built status ends is zero = performed_means stand law words before after ends
+ended_means stand law words before after Refused status ends is zero = let bad : ◌≡◌ {A = ℕ} 1 0 = sym is ∙ zero in cc
+ended_means stand law words before after NoCommand status ends is zero = let bad : ◌≡◌ {A = ℕ} 2 0 = sym is ∙ zero in cc
+ended_means stand law words before after ReadFailed status ends is zero = let bad : ◌≡◌ {A = ℕ} 3 0 = sym is ∙ zero in cc
+ended_means stand law words before after WriteFailed status ends is zero = let bad : ◌≡◌ {A = ℕ} 4 0 = sym is ∙ zero in cc
+ended_means stand law words before after Memory status ends is zero = let bad : ◌≡◌ {A = ℕ} 5 0 = sym is ∙ zero in cc

@@ -17,3 +17,6 @@ pub use due::{Change, Due};
 pub use ending::Ending;
 pub use stop::Stop;
 pub use top::run;
+
+#[cfg(test)]
+mod tests;
