@@ -32,10 +32,12 @@ pub IsLeastMultiple-div_ceil : (n to : ℕ) → 0 < to → IsLeastMultiple to n 
 IsLeastMultiple-div_ceil n to positive =
     let bounds = div_ceil_times n to positive in IsLeastMultiple-near to n (div_ceil n to) bounds.0 bounds.1
 
+-- a power of two up to 2^32 has an exponent up to 32
 at_most_32 : (k : ℕ) → 2 ^ k ≤ 2 ^ 32 → (k < 33) ⊎ (33 ≤ k) → k ≤ 32
 at_most_32 k within (inl less) = omega arith
 at_most_32 k within (inr more) = absurd (omega (arith, pow_below 32 k (omega arith)))
 
+-- and goes into 2^32 without rest
 whole_of_32 : (k : ℕ) → k ≤ 32 → 2 ^ (32 - k) * 2 ^ k ≡ 2 ^ 32
 whole_of_32 k h = let all : (32 - k) + k ≡ 32 = omega arith in sym (pow-add 2 (32 - k) k) ∙ ap (λ n. 2 ^ n) all
 

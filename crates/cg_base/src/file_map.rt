@@ -48,12 +48,7 @@ impl FileMap {
     }
 
     /// Appends the bytes of a file to `into`, if they are at most `limit`.
-    pub fn read(
-        &self,
-        name: &str,
-        limit: usize,
-        into: &mut Vec<u8>,
-    ) -> Result<Found, StoreFault>
+    pub fn read(&self, name: &str, limit: usize, into: &mut Vec<u8>) -> Result<Found, StoreFault>
         ensures found { ReadsFile (Some self.now) name.now limit result into.old.items into.new.items }
         ensures into { ReadInto result into.old.items into.new.items }
         ensures memory { OnErr result (result ≡ Err StoreFault.Memory) }

@@ -27,9 +27,9 @@ mod system;
 mod text;
 
 pub use arithmetic::{align_up, mask};
+pub use calm::{CalmSink, CalmSource, CalmStore};
 pub use file_map::FileMap;
 pub use list::List;
-pub use calm::{CalmSink, CalmSource, CalmStore};
 pub use mem_store::MemStore;
 pub use mem_streams::{MemSink, MemSource};
 pub use memory::Memory;

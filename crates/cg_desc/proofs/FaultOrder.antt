@@ -1,7 +1,7 @@
 -- The order of faults as a relation and as a comparison, and its laws.
-use Rattle.std.proofs.Common.{◌≡◌, ◌<◌, ◌⊎◌, inl, inr, ℕ, List, [], ◌∷◌, refl, sym, ap, ◌∙◌, arith, Bool, true, false}
+use Rattle.std.proofs.Common.{◌≡◌, ◌<◌, inl, inr, ℕ, List, [], ◌∷◌, refl, sym, ap, ◌∙◌, arith, Bool, true}
 use Rattle.std.specs.Prelude.{◌↔◌, IsTrue}
-use Rattle.std.specs.Ordering.{nat_cmp, then_cmp, on, ordering_then, ordering_reverse, is_lt, MatchOrdering}
+use Rattle.std.specs.Ordering.{nat_cmp, ordering_then, ordering_reverse, is_lt, MatchOrdering}
 use Rattle.std.specs.declared.cmp.Ordering.{Ordering}
 use Rattle.std.specs.declared.cmp.Ordering.TheVariants.{Less, Equal, Greater}
 use Rattle.std.specs.Cmp.{IsTotalOrder}
@@ -30,11 +30,13 @@ tells_then Greater s first second = record {
   equal = (λ e. cc, λ both. let x = first.equal.1 both.0 in cc);
 }
 
+-- the comparison of numbers tells which is smaller and whether they are equal, by its answer
 tells_numbers_by : (x y : ℕ) (r : Ordering) → MatchOrdering r (x < y) (x ≡ y) (y < x) → Tells r (x < y) (x ≡ y)
 tells_numbers_by x y Less m = record { less = (λ e. m, λ e. refl); equal = (λ e. cc, λ e. absurd (omega arith)) }
 tells_numbers_by x y Equal m = record { less = (λ e. cc, λ e. absurd (omega arith)); equal = (λ e. m, λ e. refl) }
 tells_numbers_by x y Greater m = record { less = (λ e. cc, λ e. absurd (omega arith)); equal = (λ e. cc, λ e. absurd (omega arith)) }
 
+-- the comparison of numbers tells which is smaller and whether they are equal
 tells_numbers : (x y : ℕ) → Tells (nat_cmp x y) (x < y) (x ≡ y)
 tells_numbers x y = tells_numbers_by x y (nat_cmp x y) (ranked x y (nat_cmp x y) refl)
 
@@ -42,6 +44,7 @@ tells_numbers x y = tells_numbers_by x y (nat_cmp x y) (ranked x y (nat_cmp x y)
 tells_as : {r : Ordering} {L E F : Type 0} → Tells r L E → (E → F) → (F → E) → Tells r L F
 tells_as t to from = record { less = t.less; equal = (λ e. to (t.equal.0 e), λ f. t.equal.1 (from f)) }
 
+-- the comparison of byte lists tells the order of a dictionary
 tells_bytes : (xs ys : List ℕ) → Tells (slice_cmp nat_cmp xs ys) (BytesBefore xs ys) (xs ≡ ys)
 tells_bytes [] [] = record { less = (λ e. cc, λ e. absurd e); equal = (λ e. refl, λ e. refl) }
 tells_bytes [] (y ∷ ys) = record { less = (λ e. tt, λ e. refl); equal = (λ e. cc, λ e. cc) }
@@ -71,6 +74,7 @@ fault_cmp-Less f g = (fault_tells f g).less
 pub fault_cmp-Equal : (f g : Fault) → fault_cmp f g ≡ Equal ↔ SameRank f g
 fault_cmp-Equal f g = (fault_tells f g).equal
 
+-- `is_lt` holds of `Less` alone
 lt_is_less : (r : Ordering) → is_lt r ≡ true → r ≡ Less
 lt_is_less Less e = refl
 lt_is_less Equal e = cc
@@ -81,6 +85,7 @@ pub Before-is_lt : (f g : Fault) (r : Bool) → r ≡ is_lt (fault_cmp f g) → 
 Before-is_lt f g r e =
     (λ yes. (fault_cmp-Less f g).0 (lt_is_less (fault_cmp f g) (sym e ∙ yes)), λ before. e ∙ ap is_lt ((fault_cmp-Less f g).1 before))
 
+-- the comparison of faults is a total order
 pub fault_cmp_total : IsTotalOrder fault_cmp
 unfolding fault_cmp
 fault_cmp_total =
@@ -90,21 +95,25 @@ fault_cmp_total =
     (then_total (on_total (λ f. f.rule) nat_cmp_total)
     (on_total (λ f. f.name) nat_list_cmp_total))))
 
+-- no fault is before itself
 pub before_irreflexive : BeforeIsIrreflexive
 before_irreflexive f before =
     let less : fault_cmp f f ≡ Less = (fault_cmp-Less f f).1 before in
     let same : fault_cmp f f ≡ Equal = tied_itself fault_cmp_total f in
     cc
 
+-- what is before a fault that is before a third is before the third
 pub before_transitive : BeforeIsTransitive
 before_transitive f g h fg gh =
     (fault_cmp-Less f h).0 (fault_cmp_total.trans f g h ((fault_cmp-Less f g).1 fg) ((fault_cmp-Less g h).1 gh))
 
+-- two faults of which neither is before the other agree, by the comparison's answer
 apart_or_same : (f g : Fault) (r : Ordering) → fault_cmp f g ≡ r → ¬ Before f g → ¬ Before g f → SameRank f g
 apart_or_same f g Less e no_fg no_gf = absurd (no_fg ((fault_cmp-Less f g).0 e))
 apart_or_same f g Equal e no_fg no_gf = (fault_cmp-Equal f g).0 e
 apart_or_same f g Greater e no_fg no_gf =
     absurd (no_gf ((fault_cmp-Less g f).0 (fault_cmp_total.antisymm g f ∙ ap ordering_reverse e)))
 
+-- two faults of which neither is before the other agree in what the order reads
 pub before_total : BeforeIsTotal
 before_total f g = apart_or_same f g (fault_cmp f g) refl

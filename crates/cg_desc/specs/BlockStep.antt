@@ -200,7 +200,7 @@ Where b P = cond b P (Unit {0})
 pub record FieldSteps (face : LaidFace) (target : Target) (a : Access) (fields : Fields) (hardware : Hardware) (out : Outcome) (i : ℕ) (r : RegDesc) (f : FieldDesc) : Type 0 where
   pub stored : Where (not r.hwext)
       (out.next r f ≡ next_value f.sw (takes_write face target a fields i r) (takes_read face target a i) (bits_of_field f a.data_in)
-          (after_hardware (hardware_writes f.hw && hardware.de r f) (hardware.d r f) (fields r f)))
+      (after_hardware (hardware_writes f.hw && hardware.de r f) (hardware.d r f) (fields r f)))
   pub value_seen : Where (shows_q r f) (out.q r f ≡ cond r.hwext (bits_of_field f a.data_in) (fields r f))
   pub write_seen : Where (shows_qe r f) (out.qe r f ≡ takes_write face target a fields i r)
   pub read_seen : Where (shows_re r f) (out.re r f ≡ takes_read face target a i)

@@ -54,10 +54,11 @@ phrases =
 unfoldable pub phrase_of : ℕ → Option (List ℕ)
 phrase_of rule = option_map (λ row. row.1) (find (λ row. row.0 == rule) phrases)
 
--- a rule of the table
+-- whether a number is that of a rule of the table
 abbrev pub is_rule : ℕ → Bool
 is_rule rule = list_any (λ row. row.0 == rule) phrases
 
+-- the number is that of a rule of the table
 abbrev pub IsRule : ℕ → Type 0
 IsRule rule = IsTrue (is_rule rule)
 

@@ -1,5 +1,5 @@
-use Rattle.std.proofs.Common.{◌≡◌, ◌==◌, ◌∙◌, sym, ap, refl, ℕ, List, [], ◌∷◌, Some, None, Option, true, false, cond, find, map, unwrap_or, Bor, rules}
-use Rattle.std.specs.Option.{option_map, option_copied}
+use Rattle.std.proofs.Common.{◌≡◌, ◌==◌, ◌∙◌, sym, ap, refl, ℕ, List, [], ◌∷◌, Some, Option, true, false, cond, find, map, Bor}
+use Rattle.std.specs.Option.{option_map}
 use Rattle.cg_desc.specs.FaultText.{phrases, phrase_of}
 use Rattle.cg_desc.proofs.fault_line.phrase.Goals as goal
 

@@ -1,4 +1,4 @@
-use Rattle.std.proofs.Common.{rules, sym}
+use Rattle.std.proofs.Common.{rules}
 use Rattle.cg_base.proofs.FileMapLemmas.{get-files_of_entries}
 use Rattle.cg_base.proofs.file_map.FileMap.get.Goals as goal
 
