@@ -39,7 +39,7 @@ module _ (text : List ℕ) (f : Form) (is : IsForm text f) (name : List ℕ) (fa
   form_built c d m few made apart told is_told due =
       let same : m ≡ form_module f = made ∙ made_is f name face named rows in
       built_is_due c text f d few is (repeats None apart)
-          (due ∙ (λ i. due_of_outputs c.dir (record { name = (is_told ∙ named) i ++ codes ".sv"; bytes = module_text (same i) } ∷ [])))
+      (due ∙ (λ i. due_of_outputs c.dir (record { name = (is_told ∙ named) i ++ codes ".sv"; bytes = module_text (same i) } ∷ [])))
 
   pub form_clashes : (c : Regtool) (d : Due) (clash : List ℕ) → length text ≤ limit → first_repeat (module_names (register_module name face)) ≡ Some clash
       → d ≡ due_of_fault c.file (clash_fault text clash) → IsDueFor c (Some text) d

@@ -26,7 +26,7 @@ pub form_means : RegisterModuleMeans → (text : List ℕ) (f : Form) → IsForm
 unfolding register_module
 form_means law text f is apart size =
     law (register_module_name f.block None) (plain_face size f.registers) (top-IsName f.block is.block.0.0)
-        (plain-IsLaid f.registers (plain_face size f.registers) refl is.registers is.some_register is.few_registers) apart
+    (plain-IsLaid f.registers (plain_face size f.registers) refl is.registers is.some_register is.few_registers) apart
 
 written_block : PrintedTextStands → RegisterModuleMeans → (words : List (List ℕ)) (m : Files) (after : Option Files) (c : Regtool) (given : Option (List ℕ)) (outputs : List Output)
     → command_of words ≡ Some c → map.get m c.file ≡ given → IsBuilt given outputs

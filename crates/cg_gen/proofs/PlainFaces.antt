@@ -63,8 +63,14 @@ apart a b has lacks true e = let same : a ≡ b = (bytes_eq-Decides a b).0 e in 
 -- such a word is no keyword, since no keyword has an underscore
 no_keyword : (w : List ℕ) → has_underscore w ≡ true → is_keyword w ≡ false
 no_keyword w h =
-    rw (apart w (codes "module") h refl _ refl, apart w (codes "endmodule") h refl _ refl, apart w (codes "input") h refl _ refl,
-      apart w (codes "output") h refl _ refl, apart w (codes "wire") h refl _ refl, apart w (codes "assign") h refl _ refl) refl
+    rw (
+      apart w (codes "module") h refl _ refl,
+      apart w (codes "endmodule") h refl _ refl,
+      apart w (codes "input") h refl _ refl,
+      apart w (codes "output") h refl _ refl,
+      apart w (codes "wire") h refl _ refl,
+      apart w (codes "assign") h refl _ refl,
+    ) refl
 
 pub top-IsName : (w : List ℕ) → IsWord w → IsName (w ++ codes "_reg_top")
 top-IsName w h = (word-top w h, no_keyword (w ++ codes "_reg_top") (underscore-append w (codes "_reg_top") refl))

@@ -238,7 +238,11 @@ fn candidate(alloc: Global, strings: &[List<u8>]) -> Result<Option<Form>, Memory
     let Some(block) = short_name(alloc, block.as_slice())? else {
         return Ok(None);
     };
-    let behind = if strings.len() < 13 { strings.len() } else { 13 };
+    let behind = if strings.len() < 13 {
+        strings.len()
+    } else {
+        13
+    };
     let Some(registers) = registers(alloc, &strings[behind..])? else {
         return Ok(None);
     };

@@ -57,10 +57,9 @@ pub fn perform<S: Store, O: Sink, E: Sink>(
     err: &mut E,
 ) -> Ending
     requires { due.now.status < 3 }
-    ensures {
-            let before : World = world (S.content store.old) (S.read_faults store.old) (S.change_faults store.old) (O.held out.old) (O.faults out.old) (E.held err.old) (E.faults err.old) in
-            let after : World = world (S.content store.new) (S.read_faults store.new) (S.change_faults store.new) (O.held out.new) (O.faults out.new) (E.held err.new) (E.faults err.new) in
-            PerformEnds result due.now before after }
+    ensures { let before : World = world (S.content store.old) (S.read_faults store.old) (S.change_faults store.old) (O.held out.old) (O.faults out.old) (E.held err.old) (E.faults err.old) in
+        let after : World = world (S.content store.new) (S.read_faults store.new) (S.change_faults store.new) (O.held out.new) (O.faults out.new) (E.held err.new) (E.faults err.new) in
+        PerformEnds result due.now before after }
 {
     match write_all(due.changes.as_slice(), store) {
         Ok(()) => {}

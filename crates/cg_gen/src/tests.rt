@@ -95,13 +95,28 @@ fn run_counted<L: Ledger, R: Threads + Sync>(
 {
     let mut steps = Steps::<L>::new(blank);
     let mut input = CalmSource::new(List::new(alloc));
-    ran.status = run(rt, alloc, words, store, &mut input, &mut ran.out, &mut ran.err, &OpenGate, &mut steps);
+    ran.status = run(
+        rt,
+        alloc,
+        words,
+        store,
+        &mut input,
+        &mut ran.out,
+        &mut ran.err,
+        &OpenGate,
+        &mut steps,
+    );
     Ok(())
 }
 
 /// Runs the words on the store, `bad` being the calls of `out` that are to fail.
-fn ran_on(rt: HostRuntime, words: &[&str], store: &mut MemStore, bad: &[u64]) -> Result<Ran, Fail> {
-    let alloc = rt.alloc();
+fn ran_on<R: Threads + Sync>(
+    rt: &R,
+    alloc: Global,
+    words: &[&str],
+    store: &mut MemStore,
+    bad: &[u64],
+) -> Result<Ran, Fail> {
     let mut strings = Vec::new(alloc);
     for word in words {
         strings.push(String::from_str(alloc, word)?)?;
@@ -111,22 +126,31 @@ fn ran_on(rt: HostRuntime, words: &[&str], store: &mut MemStore, bad: &[u64]) ->
         err: MemSink::new(alloc, List::new(alloc)),
         status: 255,
     };
-    run_counted::<Brand, _>(&rt, alloc, &strings, store, &mut ran, Blank::new(1))?;
+    run_counted::<Brand, _>(rt, alloc, &strings, store, &mut ran, Blank::new(1))?;
     Ok(ran)
 }
 
 /// A store with one file, of which these reads and changes are to fail.
-fn store_with(rt: HostRuntime, name: &str, text: &str, bad_reads: &[u64], bad_changes: &[u64]) -> Result<MemStore, Fail> {
-    let alloc = rt.alloc();
-    let mut store = MemStore::new(alloc, List::of(alloc, bad_reads)?, List::of(alloc, bad_changes)?);
+fn store_with(
+    alloc: Global,
+    name: &str,
+    text: &str,
+    bad_reads: &[u64],
+    bad_changes: &[u64],
+) -> Result<MemStore, Fail> {
+    let mut store = MemStore::new(
+        alloc,
+        List::of(alloc, bad_reads)?,
+        List::of(alloc, bad_changes)?,
+    );
     store.add(name, text.as_bytes())?;
     Ok(store)
 }
 
 #[test]
 fn one_register_is_written(rt: HostRuntime) -> Result<(), Fail> {
-    let mut store = store_with(rt, "gpio1.hjson", GPIO, &[], &[])?;
-    let ran = ran_on(rt, &REGTOOL, &mut store, &[])?;
+    let mut store = store_with(rt.alloc(), "gpio1.hjson", GPIO, &[], &[])?;
+    let ran = ran_on(&rt, rt.alloc(), &REGTOOL, &mut store, &[])?;
     assert_eq!(rt; ran.status, 0);
     assert_eq!(rt; ran.out.bytes(), b"built 1 0\n".as_slice());
     assert_eq!(rt; ran.err.bytes(), b"".as_slice());
@@ -137,10 +161,15 @@ fn one_register_is_written(rt: HostRuntime) -> Result<(), Fail> {
 #[test]
 fn a_second_register_is_read_before_the_first(rt: HostRuntime) -> Result<(), Fail> {
     let alloc = rt.alloc();
-    let mut text = String::from_str(alloc, "{\"name\":\"gpio1\", \"clocking\": [ {\"clock\":\"clk_i\",\"reset\":\"rst_ni\"}]\n,\"bus_interfaces\":[{\"protocol\":\"tlul\",\"direction\":\"device\"}],\t\"registers\":[")?;
-    text.push_str("{\"name\":\"DATA\",\"swaccess\":\"rw\",\"fields\":[{\"bits\":\"31:0\"}]},{\"name\":\"MODE\",\"swaccess\":\"rw\",\"fields\":[{\"bits\":\"31:0\"}]}]}")?;
-    let mut store = store_with(rt, "gpio1.hjson", &text, &[], &[])?;
-    let ran = ran_on(rt, &REGTOOL, &mut store, &[])?;
+    let mut text = String::from_str(
+        alloc,
+        "{\"name\":\"gpio1\", \"clocking\": [ {\"clock\":\"clk_i\",\"reset\":\"rst_ni\"}]\n,\"bus_interfaces\":[{\"protocol\":\"tlul\",\"direction\":\"device\"}],\t\"registers\":[",
+    )?;
+    text.push_str(
+        "{\"name\":\"DATA\",\"swaccess\":\"rw\",\"fields\":[{\"bits\":\"31:0\"}]},{\"name\":\"MODE\",\"swaccess\":\"rw\",\"fields\":[{\"bits\":\"31:0\"}]}]}",
+    )?;
+    let mut store = store_with(rt.alloc(), "gpio1.hjson", &text, &[], &[])?;
+    let ran = ran_on(&rt, rt.alloc(), &REGTOOL, &mut store, &[])?;
     assert_eq!(rt; ran.status, 0);
     let written = store.file(OUTPUT).unwrap_or(b"");
     let written = std::str::from_utf8(written)?;
@@ -158,8 +187,14 @@ fn faults_are_told(rt: HostRuntime) -> Result<(), Fail> {
         (GPIO, "f.hjson", "f.hjson:1:1: fault 10: file absent\n"),
     ];
     for (text, file, line) in cases {
-        let mut store = store_with(rt, "e.hjson", text, &[], &[])?;
-        let ran = ran_on(rt, &["regtool", "-r", "-t", "out", file], &mut store, &[])?;
+        let mut store = store_with(rt.alloc(), "e.hjson", text, &[], &[])?;
+        let ran = ran_on(
+            &rt,
+            rt.alloc(),
+            &["regtool", "-r", "-t", "out", file],
+            &mut store,
+            &[],
+        )?;
         assert_eq!(rt; ran.status, 1, "{line}");
         assert_eq!(rt; ran.err.bytes(), line.as_bytes());
         assert_eq!(rt; ran.out.bytes(), b"".as_slice());
@@ -177,8 +212,8 @@ fn other_words_are_no_command(rt: HostRuntime) -> Result<(), Fail> {
         &["tlgen", "-t", "gpio1.hjson", "-o", "out"],
     ];
     for words in cases {
-        let mut store = store_with(rt, "gpio1.hjson", GPIO, &[], &[])?;
-        let ran = ran_on(rt, words, &mut store, &[])?;
+        let mut store = store_with(rt.alloc(), "gpio1.hjson", GPIO, &[], &[])?;
+        let ran = ran_on(&rt, rt.alloc(), words, &mut store, &[])?;
         assert_eq!(rt; ran.status, 2);
         assert_eq!(rt; ran.err.bytes(), USAGE.as_bytes());
         assert_eq!(rt; store.file(OUTPUT), None);
@@ -194,8 +229,8 @@ fn failures_end_the_run(rt: HostRuntime) -> Result<(), Fail> {
         (&[], &[], &[1], 4, true),
     ];
     for (reads, changes, puts, status, written) in cases {
-        let mut store = store_with(rt, "gpio1.hjson", GPIO, reads, changes)?;
-        let ran = ran_on(rt, &REGTOOL, &mut store, puts)?;
+        let mut store = store_with(rt.alloc(), "gpio1.hjson", GPIO, reads, changes)?;
+        let ran = ran_on(&rt, rt.alloc(), &REGTOOL, &mut store, puts)?;
         assert_eq!(rt; ran.status, status);
         assert_eq!(rt; ran.out.bytes(), b"".as_slice());
         assert_eq!(rt; ran.err.bytes(), b"".as_slice());

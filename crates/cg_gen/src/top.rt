@@ -34,14 +34,12 @@ fn run_words<S: Store, O: Sink, E: Sink>(
     out: &mut O,
     err: &mut E,
 ) -> Ending
-    ensures ends {
-            let before : World = world (S.content store.old) (S.read_faults store.old) (S.change_faults store.old) (O.held out.old) (O.faults out.old) (E.held err.old) (E.faults err.old) in
-            let after : World = world (S.content store.new) (S.read_faults store.new) (S.change_faults store.new) (O.held out.new) (O.faults out.new) (E.held err.new) (E.faults err.new) in
-            Ends result (map string_bytes words.now) before after }
-    ensures completes {
-            let before : World = world (S.content store.old) (S.read_faults store.old) (S.change_faults store.old) (O.held out.old) (O.faults out.old) (E.held err.old) (E.faults err.old) in
-            let after : World = world (S.content store.new) (S.read_faults store.new) (S.change_faults store.new) (O.held out.new) (O.faults out.new) (E.held err.new) (E.faults err.new) in
-            Completes (code_of result) (map string_bytes words.now) before after }
+    ensures ends { let before : World = world (S.content store.old) (S.read_faults store.old) (S.change_faults store.old) (O.held out.old) (O.faults out.old) (E.held err.old) (E.faults err.old) in
+        let after : World = world (S.content store.new) (S.read_faults store.new) (S.change_faults store.new) (O.held out.new) (O.faults out.new) (E.held err.new) (E.faults err.new) in
+        Ends result (map string_bytes words.now) before after }
+    ensures completes { let before : World = world (S.content store.old) (S.read_faults store.old) (S.change_faults store.old) (O.held out.old) (O.faults out.old) (E.held err.old) (E.faults err.old) in
+        let after : World = world (S.content store.new) (S.read_faults store.new) (S.change_faults store.new) (O.held out.new) (O.faults out.new) (E.held err.new) (E.faults err.new) in
+        Completes (code_of result) (map string_bytes words.now) before after }
 {
     match plan(alloc, words, store) {
         Ok(due) => perform(&due, store, out, err),
@@ -59,15 +57,7 @@ fn run_words<S: Store, O: Sink, E: Sink>(
 /// The status is 0 where the text was written and told, 1 where the description has a first fault, 2 where the words are no
 /// command, 3 and 4 where the store or a stream failed, and 5 where memory was not found. What each means is a clause below. No
 /// clause rules out want of memory, and where the store or a stream tells no content, the clauses on content say nothing of it.
-pub fn run<
-    R: Threads + Sync,
-    S: Store,
-    I: Source,
-    O: Sink,
-    E: Sink,
-    G: Gate + Sync,
-    L: Ledger,
->(
+pub fn run<R: Threads + Sync, S: Store, I: Source, O: Sink, E: Sink, G: Gate + Sync, L: Ledger>(
     _rt: &R,
     alloc: Global,
     words: &[String],
@@ -81,41 +71,40 @@ pub fn run<
     ensures range { result < 6 }
     // the outputs are written, and their number is told
     ensures done { result ≡ 0 →
-            let before : World = world (S.content store.old) (S.read_faults store.old) (S.change_faults store.old) (O.held out.old) (O.faults out.old) (E.held err.old) (E.faults err.old) in
-            let after : World = world (S.content store.new) (S.read_faults store.new) (S.change_faults store.new) (O.held out.new) (O.faults out.new) (E.held err.new) (E.faults err.new) in
-            Performs 0 (map string_bytes words.now) before after }
+        let before : World = world (S.content store.old) (S.read_faults store.old) (S.change_faults store.old) (O.held out.old) (O.faults out.old) (E.held err.old) (E.faults err.old) in
+        let after : World = world (S.content store.new) (S.read_faults store.new) (S.change_faults store.new) (O.held out.new) (O.faults out.new) (E.held err.new) (E.faults err.new) in
+        Performs 0 (map string_bytes words.now) before after }
     // the first fault is told, and nothing is written
     ensures refused { result ≡ 1 →
-            let before : World = world (S.content store.old) (S.read_faults store.old) (S.change_faults store.old) (O.held out.old) (O.faults out.old) (E.held err.old) (E.faults err.old) in
-            let after : World = world (S.content store.new) (S.read_faults store.new) (S.change_faults store.new) (O.held out.new) (O.faults out.new) (E.held err.new) (E.faults err.new) in
-            Performs 1 (map string_bytes words.now) before after }
+        let before : World = world (S.content store.old) (S.read_faults store.old) (S.change_faults store.old) (O.held out.old) (O.faults out.old) (E.held err.old) (E.faults err.old) in
+        let after : World = world (S.content store.new) (S.read_faults store.new) (S.change_faults store.new) (O.held out.new) (O.faults out.new) (E.held err.new) (E.faults err.new) in
+        Performs 1 (map string_bytes words.now) before after }
     // the words are no command, and the usage text is told
     ensures no_command { result ≡ 2 →
-            let before : World = world (S.content store.old) (S.read_faults store.old) (S.change_faults store.old) (O.held out.old) (O.faults out.old) (E.held err.old) (E.faults err.old) in
-            let after : World = world (S.content store.new) (S.read_faults store.new) (S.change_faults store.new) (O.held out.new) (O.faults out.new) (E.held err.new) (E.faults err.new) in
-            Performs 2 (map string_bytes words.now) before after }
+        let before : World = world (S.content store.old) (S.read_faults store.old) (S.change_faults store.old) (O.held out.old) (O.faults out.old) (E.held err.old) (E.faults err.old) in
+        let after : World = world (S.content store.new) (S.read_faults store.new) (S.change_faults store.new) (O.held out.new) (O.faults out.new) (E.held err.new) (E.faults err.new) in
+        Performs 2 (map string_bytes words.now) before after }
     ensures read_failed { result ≡ 3 →
-            let before : World = world (S.content store.old) (S.read_faults store.old) (S.change_faults store.old) (O.held out.old) (O.faults out.old) (E.held err.old) (E.faults err.old) in
-            let after : World = world (S.content store.new) (S.read_faults store.new) (S.change_faults store.new) (O.held out.new) (O.faults out.new) (E.held err.new) (E.faults err.new) in
-            ReadFails before after }
+        let before : World = world (S.content store.old) (S.read_faults store.old) (S.change_faults store.old) (O.held out.old) (O.faults out.old) (E.held err.old) (E.faults err.old) in
+        let after : World = world (S.content store.new) (S.read_faults store.new) (S.change_faults store.new) (O.held out.new) (O.faults out.new) (E.held err.new) (E.faults err.new) in
+        ReadFails before after }
     ensures write_failed { result ≡ 4 →
-            let before : World = world (S.content store.old) (S.read_faults store.old) (S.change_faults store.old) (O.held out.old) (O.faults out.old) (E.held err.old) (E.faults err.old) in
-            let after : World = world (S.content store.new) (S.read_faults store.new) (S.change_faults store.new) (O.held out.new) (O.faults out.new) (E.held err.new) (E.faults err.new) in
-            WriteFails (map string_bytes words.now) before after }
+        let before : World = world (S.content store.old) (S.read_faults store.old) (S.change_faults store.old) (O.held out.old) (O.faults out.old) (E.held err.old) (E.faults err.old) in
+        let after : World = world (S.content store.new) (S.read_faults store.new) (S.change_faults store.new) (O.held out.new) (O.faults out.new) (E.held err.new) (E.faults err.new) in
+        WriteFails (map string_bytes words.now) before after }
     ensures memory { result ≡ 5 →
-            let before : World = world (S.content store.old) (S.read_faults store.old) (S.change_faults store.old) (O.held out.old) (O.faults out.old) (E.held err.old) (E.faults err.old) in
-            let after : World = world (S.content store.new) (S.read_faults store.new) (S.change_faults store.new) (O.held out.new) (O.faults out.new) (E.held err.new) (E.faults err.new) in
-            MemoryUnfound (map string_bytes words.now) before after }
+        let before : World = world (S.content store.old) (S.read_faults store.old) (S.change_faults store.old) (O.held out.old) (O.faults out.old) (E.held err.old) (E.faults err.old) in
+        let after : World = world (S.content store.new) (S.read_faults store.new) (S.change_faults store.new) (O.held out.new) (O.faults out.new) (E.held err.new) (E.faults err.new) in
+        MemoryUnfound (map string_bytes words.now) before after }
     // where no count rose, what is due decides the status, but for want of memory
-    ensures complete {
-            let before : World = world (S.content store.old) (S.read_faults store.old) (S.change_faults store.old) (O.held out.old) (O.faults out.old) (E.held err.old) (E.faults err.old) in
-            let after : World = world (S.content store.new) (S.read_faults store.new) (S.change_faults store.new) (O.held out.new) (O.faults out.new) (E.held err.new) (E.faults err.new) in
-            Completes result (map string_bytes words.now) before after }
+    ensures complete { let before : World = world (S.content store.old) (S.read_faults store.old) (S.change_faults store.old) (O.held out.old) (O.faults out.old) (E.held err.old) (E.faults err.old) in
+        let after : World = world (S.content store.new) (S.read_faults store.new) (S.change_faults store.new) (O.held out.new) (O.faults out.new) (E.held err.new) (E.faults err.new) in
+        Completes result (map string_bytes words.now) before after }
     // the bytes in the store stand for a module that acts as the block that the description asks for
     ensures meaning { result ≡ 0 →
-            let before : World = world (S.content store.old) (S.read_faults store.old) (S.change_faults store.old) (O.held out.old) (O.faults out.old) (E.held err.old) (E.faults err.old) in
-            let after : World = world (S.content store.new) (S.read_faults store.new) (S.change_faults store.new) (O.held out.new) (O.faults out.new) (E.held err.new) (E.faults err.new) in
-            WritesMeaning (map string_bytes words.now) before after }
+        let before : World = world (S.content store.old) (S.read_faults store.old) (S.change_faults store.old) (O.held out.old) (O.faults out.old) (E.held err.old) (E.faults err.old) in
+        let after : World = world (S.content store.new) (S.read_faults store.new) (S.change_faults store.new) (O.held out.new) (O.faults out.new) (E.held err.new) (E.faults err.new) in
+        WritesMeaning (map string_bytes words.now) before after }
 {
     printed_text_stands();
     register_module_means();

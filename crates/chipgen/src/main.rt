@@ -34,7 +34,9 @@ fn run_counted<L: Ledger, R: Threads + Sync, S: Store, I: Source, O: Sink, E: Si
     requires one { L.parts ≡ 1 }
 {
     let mut steps = Steps::<L>::new(blank);
-    cg_gen::run(rt, alloc, words, store, input, out, err, &OpenGate, &mut steps)
+    cg_gen::run(
+        rt, alloc, words, store, input, out, err, &OpenGate, &mut steps,
+    )
 }
 
 // The words of the command line without the program's name, `None` where they were not to be had.
