@@ -7,3 +7,4 @@ pub mod Once
 pub mod Meanings
 pub mod Dues
 pub mod FormDues
+pub mod Examples
