@@ -1,3 +1,4 @@
 pub mod Parts
 pub mod Narrow
 pub mod Named
+pub mod Interface

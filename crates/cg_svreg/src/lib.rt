@@ -16,4 +16,4 @@ mod states;
 mod windows;
 mod words;
 
-pub use module::face_module;
+pub use module::{face_module, reg_module};

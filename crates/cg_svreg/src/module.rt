@@ -6,7 +6,8 @@ ghost use Rattle.cg_svspec.specs.Register.{access_ports};
 ghost use Rattle.cg_desc.specs.Laid.{IsLaid};
 ghost use Rattle.cg_sv.specs.Views.{module_of, port_of, entry_of};
 ghost use Rattle.cg_sv.specs.declared.fault.SvRegFault.TheVariants as SvRegFault;
-ghost use Rattle.cg_regspec.specs.RegisterModule.{rows_ports, register_entries, register_module};
+ghost use Rattle.cg_regspec.specs.RegisterModule.{rows_ports, register_entries, register_module, register_module_name};
+ghost use Rattle.cg_svreg.specs.Interface.{interface, interface_module};
 ghost use Rattle.cg_svreg.specs.Narrow.{RowsAreNarrow};
 
 use crate::answer::add_answer;
@@ -16,7 +17,7 @@ use crate::rows::add_rows;
 use crate::states::{add_rows_flops, add_rows_states};
 use crate::windows::add_rows_windows;
 use cg_base::{List, Memory, Text};
-use cg_desc::{LaidFace, LaidRow};
+use cg_desc::{LaidBlock, LaidFace, LaidRow};
 use cg_sv::{Entry, Module, Port, SvRegFault, names_differ};
 use std::alloc::Global;
 
@@ -62,10 +63,10 @@ fn any_module(alloc: Global, name: &str, face: &LaidFace) -> Result<Module, Memo
 
 /// The register module of an interface, under this name.
 ///
-/// Its entries stand in this order: the stored fields' wires; six wires for each row; the answer; each field's next value
-/// and what hardware sees of it; what hardware sees of each window; the flip-flops. The module's step in a clock is the
-/// interface's. `Clash` names the first name that the module would declare twice, as that of a field `q` beside a
-/// register's `_q` net.
+/// Its entries stand in this order: the stored fields' wires; six wires for each row; the answer to an access; each
+/// field's next value, and what hardware sees of it; what hardware sees of each window; the flip-flops. `Clash` has the
+/// first name that the module would declare twice, as `a_b_c_q` where register `A_B` has a field `C`, and register `A` a
+/// field `B_C`.
 pub fn face_module(alloc: Global, name: &str, face: &LaidFace) -> Result<Module, SvRegFault>
     requires laid { IsLaid face.now }
     ensures made { IfOk result (λ m. module_of m ≡ register_module name.now face.now) }
@@ -74,5 +75,33 @@ pub fn face_module(alloc: Global, name: &str, face: &LaidFace) -> Result<Module,
 {
     let made = any_module(alloc, name, face)?;
     names_differ(alloc, &made)?;
+    Ok(made)
+}
+
+/// The name of an interface's module: `<block>_reg_top`, or `<block>_<interface>_reg_top` for a named interface.
+fn module_name(alloc: Global, block: &str, face: &LaidFace) -> Result<Text, Memory>
+    ensures { IfOk result (λ name. name ≡ register_module_name block.now face.now.name) }
+{
+    let Some(interface) = &face.name else {
+        let name = format!(in alloc; "{block}_reg_top")?;
+        return Ok(Text::from_string(name));
+    };
+    let interface = interface.as_str();
+    let name = format!(in alloc; "{block}_{interface}_reg_top")?;
+    Ok(Text::from_string(name))
+}
+
+/// The register module of the block's device interface number `face`, counted from 0, under the name that block and
+/// interface give it. `Clash` is as for `face_module`.
+pub fn reg_module(alloc: Global, block: &LaidBlock, face: u32) -> Result<Module, SvRegFault>
+    requires within { face < length block.now.faces }
+    requires laid { IsLaid (interface block.now face) }
+    ensures made { IfOk result (λ m. module_of m ≡ interface_module block.now face) }
+    ensures apart { OnOk result (first_repeat (module_names (interface_module block.now face)) ≡ None) }
+    ensures clash { (n : List ℕ) → result ≡ Err (SvRegFault.Clash n) → first_repeat (module_names (interface_module block.now face)) ≡ Some n }
+{
+    let face = &block.faces.as_slice()[face as usize];
+    let name = module_name(alloc, block.desc.name.as_str(), face)?;
+    let made = face_module(alloc, name.as_str(), face)?;
     Ok(made)
 }
