@@ -69,6 +69,8 @@ pub fn run<R: Threads + Sync, S: Store, I: Source, O: Sink, E: Sink, G: Gate + S
     _steps: &mut Steps<L>,
 ) -> u8
     ensures range { result < 6 }
+    ensures input_left { I.left _input.new ≡ I.left _input.old }
+    ensures no_step { _steps.new ≡ _steps.old }
     // the outputs are written, and their number is told
     ensures done { result ≡ 0 →
         let before : World = world (S.content store.old) (S.read_faults store.old) (S.change_faults store.old) (O.held out.old) (O.faults out.old) (E.held err.old) (E.faults err.old) in
