@@ -1,0 +1,18 @@
+-- A call that tells the right answer tells the truth.
+use Rattle.std.proofs.Common.{◌≡◌, ℕ, List, Result, Ok, Err, sym, ◌∙◌, subst}
+use Rattle.cg_docspec.specs.SyntaxFault.{Answer, IsAnswer}
+use Rattle.cg_hjson.specs.declared.tree.Tree.{Tree}
+use Rattle.cg_hjson.specs.declared.reader.HjsonFault.{HjsonFault}
+use Rattle.cg_hjson.specs.declared.reader.HjsonFault.TheVariants.{NotDocument, TooDeep, Memory}
+use Rattle.cg_hjson.specs.Answers.{IsRight, Tells}
+
+-- the right answer, in the words of the grammar
+pub right_by : (text : List ℕ) (a : Answer) (r : Result Tree HjsonFault) → Tells a r → IsAnswer text a → IsRight text r
+right_by text a (Ok t) told is = rw told at is
+right_by text a (Err (NotDocument at)) told is = rw told at is
+right_by text a (Err (TooDeep at)) told is = rw told at is
+right_by text a (Err Memory) told is = tt
+
+-- an equal answer is told, too
+pub tells_by : (a b : Answer) (r : Result Tree HjsonFault) → a ≡ b → Tells a r → Tells b r
+tells_by a b r same told = subst (λ x. Tells x r) same told

@@ -1,0 +1,5 @@
+pub mod Views
+pub mod FirstCharacter
+pub mod OneStep
+pub mod Answers
+pub mod Integers
