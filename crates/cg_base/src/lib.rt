@@ -9,7 +9,7 @@
 //!
 //! `List` and `Text` are seen by contracts as lists of items and of bytes. Want of memory is
 //! `Memory`, a variant of its own wherever it can come; no contract says that it does not come.
-//! `Steps` counts steps for contracts alone. `mask` and `align_up` take no memory.
+//! `Steps` counts steps for contracts alone. `mask`, `align_up` and `parse_int` take no memory.
 #![tactic(auto)]
 
 mod arithmetic;
@@ -20,6 +20,7 @@ mod list;
 mod mem_store;
 mod mem_streams;
 mod memory;
+mod number;
 mod outside;
 mod rest;
 mod steps;
@@ -33,6 +34,7 @@ pub use list::List;
 pub use mem_store::MemStore;
 pub use mem_streams::{MemSink, MemSource};
 pub use memory::Memory;
+pub use number::{NumFault, number_of_is_exact, parse_int};
 pub use outside::{Failed, Found, Gate, OpenGate, Sink, SinkFault, Source, Store, StoreFault};
 pub use steps::Steps;
 pub use system::{FileStore, StdSink, StdSource};

@@ -24,3 +24,6 @@ mod tree;
 
 pub use reader::{HjsonFault, read};
 pub use tree::{Kind, Member, Tree};
+
+#[cfg(test)]
+mod tests;

@@ -2,4 +2,6 @@ pub mod Lists
 pub mod Narrow
 pub mod ReadBefore
 pub mod Terms
+pub mod Examples
+pub mod Printing
 pub mod RowsLeft

@@ -2,3 +2,4 @@ pub mod Parts
 pub mod Narrow
 pub mod Named
 pub mod Interface
+pub mod Example

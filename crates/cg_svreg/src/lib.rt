@@ -1,4 +1,14 @@
-//! The writer of register modules: the hardware of a block's registers and windows, behind one interface.
+//! The writer of register modules: the hardware of a block's registers and windows, behind one device interface.
+//!
+//! `face_module` makes the module of an interface that is laid out, and `reg_module` that of a block's interface under its
+//! own name. Rows are the registers and windows in the order of their offsets, with any kinds of fields, stored or
+//! external, with gates and windows (OpenTitan Register Tool). A module that would declare a name twice is refused, with
+//! the first such name, exactly where one repeats.
+//!
+//! The module is the one of `cg_regspec`, port by port and entry by entry; each file here makes the lists of one group,
+//! and each function adds the list of one definition. That such a module is well formed, and acts as the interface's
+//! register block, is the law of `cg_regspec`. Not promised here: the module's text, which `cg_sv` prints, and that the
+//! module's own name differs from other modules'.
 #![tactic(auto)]
 
 mod access;
@@ -13,6 +23,8 @@ mod ports;
 mod refusals;
 mod rows;
 mod states;
+#[cfg(test)]
+mod tests;
 mod windows;
 mod words;
 
