@@ -1,0 +1,8 @@
+//! Keys of objects.
+#![tactic(auto)]
+
+mod forms;
+mod table;
+
+pub use forms::{Form, Words};
+pub use table::Row;
