@@ -1,90 +1,76 @@
--- What is built of a file, or the first fault of it.
-use Rattle.std.specs.Prelude.{◌≡◌, ℕ, ◌+◌, ◌*◌, ◌<◌, ◌≤◌, ◌⊎◌, ◌==◌, Bool, true, false, List, [], ◌∷◌, ◌++◌, length, map, codes, if◌then◌else◌, Option, Some, None}
+-- What is built of a block's file, or the first fault of it.
+use Rattle.std.specs.Prelude.{◌≡◌, ℕ, ◌<◌, ◌≤◌, List, [], ◌∷◌, ◌++◌, length, map, take, cond, codes, chars, IsUtf8, Option, Some, None}
+use Rattle.std.specs.Str.{IsValidUpTo}
+use Rattle.std.specs.Ordering.{is_gt, nat_cmp}
+use Rattle.std.specs.Cmp.Lexicographic.{slice_cmp}
+use Rattle.cg_docspec.specs.Place.{Place, origin, place_after}
+use Rattle.cg_docspec.specs.SyntaxFault.{NoDocument, TooDeep}
 use Rattle.cg_svspec.specs.Layout.{module_text}
 use Rattle.cg_svspec.specs.Names.{module_names, first_repeat}
 use Rattle.cg_svspec.specs.Tree.{Module}
 use Rattle.cg_desc.specs.declared.place.At.{At}
 use Rattle.cg_desc.specs.declared.fault.Fault.{Fault}
-use Rattle.cg_desc.specs.declared.block.SwAccess.TheVariants as software
-use Rattle.cg_desc.specs.declared.block.HwAccess.TheVariants as hardware
-use Rattle.cg_desc.specs.declared.block.FieldDesc.{FieldDesc}
-use Rattle.cg_desc.specs.declared.block.RegDesc.{RegDesc}
-use Rattle.cg_desc.specs.declared.block.Item.TheVariants.{Reg}
-use Rattle.cg_desc.specs.declared.block.LaidRow.{LaidRow}
+use Rattle.cg_desc.specs.declared.block.LaidBlock.{LaidBlock}
 use Rattle.cg_desc.specs.declared.block.LaidFace.{LaidFace}
 use Rattle.cg_regspec.specs.RegisterModule.{register_module, register_module_name}
-use Rattle.cg_gen.specs.declared.form.Form.{Form}
-use Rattle.cg_gen.specs.Form.{IsForm, is_blank}
+use Rattle.cg_finding.specs.Finding.{Finding, finding, in_file}
+use Rattle.cg_finding.specs.Violations.{IsFirstViolation}
+use Rattle.cg_keys.specs.Duplicates.{at_of}
+use Rattle.cg_hjson.specs.declared.tree.Tree.{Tree}
+use Rattle.cg_blkread.specs.Reads.{Violates as BreaksKeysOrValues}
+use Rattle.cg_expand.specs.Violations.{Violates as BreaksNamesOrCounts}
+use Rattle.cg_layout.specs.Violations.{Violates as BreaksOffsetsOrGates}
+use Rattle.cg_gen.specs.Stages.{limit, IsText, description, HasTree, IsBlock, HasItems, IsLaidOutAs}
 
--- ---- the interface of a form
+-- ---- the modules
 
--- no place, for what no later rule reports
-abbrev pub nowhere : At
-nowhere = record { byte = 0; line = 0; column = 0 }
+-- the name of an interface's register module
+abbrev pub module_name_of : LaidBlock → LaidFace → List ℕ
+module_name_of laid face = register_module_name laid.desc.name face.name
 
--- the field of a register of this name, which has the register's name
-abbrev pub plain_field : List ℕ → FieldDesc
-plain_field n = record { name = n; msb = 31; lsb = 0; sw = software.Rw; hw = hardware.Hro; resval = 0; mubi = false; at = nowhere }
+abbrev pub module_of_face : LaidBlock → LaidFace → Module
+module_of_face laid face = register_module (module_name_of laid face) face
 
--- one field of all 32 bits, which software reads and writes and hardware sees; it is 0 at reset
-abbrev pub plain_register : List ℕ → RegDesc
-plain_register n = record { name = n; fields = plain_field n ∷ []; regwen = None; regwen_at = nowhere; hwext = false; hwqe = false; hwre = false; at = nowhere }
+abbrev pub or_else : Option (List ℕ) → Option (List ℕ) → Option (List ℕ)
+or_else None b = b
+or_else (Some a) b = Some a
 
--- a row for each name, from this offset on
-abbrev pub plain_rows : ℕ → List (List ℕ) → List LaidRow
-plain_rows first [] = []
-plain_rows first (n ∷ ns) = record { first = first; words = 1; item = Reg (plain_register n) } ∷ plain_rows (first + 4) ns
+-- the first repeat among the names of a module, of the first module that has one
+unfoldable pub first_clash : List Module → Option (List ℕ)
+first_clash [] = None
+first_clash (m ∷ ms) = or_else (first_repeat (module_names m)) (first_clash ms)
 
--- the unnamed interface with these registers from offset 0 on; its size is not told here
-abbrev pub plain_face : ℕ → List (List ℕ) → LaidFace
-plain_face size names = record { name = None; rows = plain_rows 0 names; size = size }
-
--- the interface's register module does not depend on its size
-abbrev pub form_module : Form → Module
-form_module f = register_module (register_module_name f.block None) (plain_face 0 f.registers)
+abbrev pub modules_of : LaidBlock → List Module
+modules_of laid = map (module_of_face laid) laid.faces
 
 -- ---- faults
 
 abbrev pub start : At
 start = record { byte = 0; line = 1; column = 1 }
 
--- the file is absent
-abbrev pub absent_fault : Fault
-absent_fault = record { phase = 0; rule = 10; file = 0; at = start; name = [] }
+-- the place behind the first n bytes, which are UTF-8; a column counts characters
+abbrev pub place_behind : List ℕ → ℕ → At
+place_behind bytes n = at_of (place_after origin (chars (take n bytes)))
 
--- the file is not of the form that is read today
-abbrev pub not_built_fault : Fault
-not_built_fault = record { phase = 1; rule = 27; file = 0; at = start; name = [] }
-
--- the place behind one character of one byte
-abbrev pub next_place : At → ℕ → At
-next_place at c =
-    if c == 10 then record { byte = at.byte + 1; line = at.line + 1; column = 1 }
-    else record { byte = at.byte + 1; line = at.line; column = at.column + 1 }
-
--- the place of the first character that is no blank
-abbrev pub opener_from : At → List ℕ → At
-opener_from at [] = at
-opener_from at (c ∷ cs) = if is_blank c then opener_from (next_place at c) cs else at
-
--- two names of the output are the same
-abbrev pub clash_fault : List ℕ → List ℕ → Fault
-clash_fault text name = record { phase = 12; rule = 70; file = 0; at = opener_from start text; name = name }
-
--- a description has at most 1 MiB
-abbrev pub limit : ℕ
-limit = 1048576
-
--- What the store gave for the file is not of the form.
-abbrev pub IsNotForm : List ℕ → Type 0
-IsNotForm text = (limit < length text) ⊎ ((f : Form) → IsForm text f → ⊥)
-
--- The first fault of what the store gave for the file, None where it is absent.
+-- The first fault of what the store gave for the file, None where it is absent. Each stage is looked at where those before it
+-- stand: the file, its text, its keys and values, its names and counts, its offsets and gates, the names of its modules.
 pub data IsFirstFault : Option (List ℕ) → Fault → Type 0 where
-  absent : IsFirstFault None absent_fault
-  not_built : {text : List ℕ} → IsNotForm text → IsFirstFault (Some text) not_built_fault
-  clash : {text name : List ℕ} (f : Form) → length text ≤ limit → IsForm text f → first_repeat (module_names (form_module f)) ≡ Some name
-      → IsFirstFault (Some text) (clash_fault text name)
+  absent : IsFirstFault None (in_file 0 (finding 0 10 start []))
+  large : {bytes : List ℕ} → limit < length bytes → IsFirstFault (Some bytes) (in_file 0 (finding 0 11 start []))
+  not_utf8 : {bytes : List ℕ} {n : ℕ} → length bytes ≤ limit → IsValidUpTo bytes n
+      → IsFirstFault (Some bytes) (in_file 0 (finding 0 12 (place_behind bytes n) []))
+  no_document : {bytes : List ℕ} {at : Place} → IsText bytes → NoDocument (chars bytes) at
+      → IsFirstFault (Some bytes) (in_file 0 (finding 1 15 (at_of at) []))
+  too_deep : {bytes : List ℕ} {at : Place} → IsText bytes → TooDeep (chars bytes) at
+      → IsFirstFault (Some bytes) (in_file 0 (finding 1 16 (at_of at) []))
+  keys_or_values : {bytes : List ℕ} {f : Finding} (t : Tree) → HasTree bytes t → IsFirstViolation (BreaksKeysOrValues t) f
+      → IsFirstFault (Some bytes) (in_file 0 f)
+  names_or_counts : {bytes : List ℕ} {f : Finding} (t : Tree) → IsBlock bytes t → IsFirstViolation (BreaksNamesOrCounts (description t)) f
+      → IsFirstFault (Some bytes) (in_file 0 f)
+  offsets_or_gates : {bytes : List ℕ} {f : Finding} (t : Tree) → HasItems bytes t → IsFirstViolation (BreaksOffsetsOrGates (description t)) f
+      → IsFirstFault (Some bytes) (in_file 0 f)
+  clash : {bytes name : List ℕ} (t : Tree) (laid : LaidBlock) → IsLaidOutAs bytes t laid → first_clash (modules_of laid) ≡ Some name
+      → IsFirstFault (Some bytes) (in_file 0 (finding 12 70 t.at name))
 
 -- ---- outputs
 
@@ -93,11 +79,28 @@ pub record Output : Type 0 where
   pub name : List ℕ
   pub bytes : List ℕ
 
--- the register text of the block
-abbrev pub form_output : Form → Output
-form_output f = record { name = register_module_name f.block None ++ codes ".sv"; bytes = module_text (form_module f) }
+abbrev pub output_name : LaidBlock → LaidFace → List ℕ
+output_name laid face = module_name_of laid face ++ codes ".sv"
 
--- what is built of a file that has no fault: the outputs by name
+-- the register text of an interface
+abbrev pub register_output : LaidBlock → LaidFace → Output
+register_output laid face = record { name = output_name laid face; bytes = module_text (module_of_face laid face) }
+
+-- the output in front of the first one whose name is behind its own
+unfoldable pub put_output : Output → List Output → List Output
+put_output o [] = o ∷ []
+put_output o (p ∷ ps) = cond (is_gt (slice_cmp nat_cmp p.name o.name)) (o ∷ p ∷ ps) (p ∷ put_output o ps)
+
+-- the outputs in the order of the bytes of their names
+unfoldable pub by_name : List Output → List Output
+by_name [] = []
+by_name (o ∷ os) = put_output o (by_name os)
+
+-- one text for each device interface
+abbrev pub register_outputs : LaidBlock → List Output
+register_outputs laid = by_name (map (register_output laid) laid.faces)
+
+-- what is built of a file that has no fault
 pub data IsBuilt : Option (List ℕ) → List Output → Type 0 where
-  built : {text : List ℕ} (f : Form) → length text ≤ limit → IsForm text f → first_repeat (module_names (form_module f)) ≡ None
-      → IsBuilt (Some text) (form_output f ∷ [])
+  built : {bytes : List ℕ} (t : Tree) (laid : LaidBlock) → IsLaidOutAs bytes t laid → first_clash (modules_of laid) ≡ None
+      → IsBuilt (Some bytes) (register_outputs laid)

@@ -1,5 +1,5 @@
 -- What a run is to do: the changes of the store and the line that is printed.
-use Rattle.std.specs.Prelude.{◌≡◌, ℕ, ◌⊎◌, List, [], ◌∷◌, ◌++◌, length, codes, Option, Some, None}
+use Rattle.std.specs.Prelude.{◌≡◌, ℕ, List, [], ◌∷◌, ◌++◌, length, codes, Option, Some, None}
 use Rattle.std.specs.Fmt.{decimal}
 use Rattle.std.specs.FinMap as map
 use Rattle.cg_base.specs.Outside.{Files}
@@ -7,7 +7,9 @@ use Rattle.cg_desc.specs.FaultText.{fault_line}
 use Rattle.cg_desc.specs.declared.fault.Fault.{Fault}
 use Rattle.cg_gen.specs.declared.due.Change.{Change}
 use Rattle.cg_gen.specs.declared.due.Due.{Due}
-use Rattle.cg_gen.specs.Command.{Regtool, command_of}
+use Rattle.cg_words.specs.Words.{IsCommand}
+use Rattle.cg_words.specs.declared.command.Command.TheVariants.{Regtool}
+use Rattle.cg_words.specs.declared.command.RegOut.TheVariants.{Registers}
 use Rattle.cg_gen.specs.Build.{Output, IsFirstFault, IsBuilt}
 
 -- a text as a line
@@ -46,9 +48,20 @@ due_of_fault file fault = record { changes = []; line = line (fault_line file fa
 abbrev pub due_of_no_command : Due
 due_of_no_command = record { changes = []; line = usage; status = 2 }
 
+-- ---- the commands that are built
+
+-- the register texts of a block, into a folder
+pub record RegisterTexts : Type 0 where
+  pub dir : List ℕ
+  pub file : List ℕ
+
+-- the words ask for register texts
+abbrev pub IsRegisterTexts : List (List ℕ) → RegisterTexts → Type 0
+IsRegisterTexts words command = IsCommand words (Regtool Registers command.dir command.file)
+
 -- What is due for what the store gave for the file: its first fault is told, exactly where there is one, or else its outputs are
 -- written.
-pub data IsDueFor (command : Regtool) (given : Option (List ℕ)) : Due → Type 0 where
+pub data IsDueFor (command : RegisterTexts) (given : Option (List ℕ)) : Due → Type 0 where
   refuses : (fault : Fault) → IsFirstFault given fault → IsDueFor command given (due_of_fault command.file fault)
   builds : (outputs : List Output) → IsBuilt given outputs → IsDueFor command given (due_of_outputs command.dir outputs)
 
@@ -56,8 +69,9 @@ pub data IsDueFor (command : Regtool) (given : Option (List ℕ)) : Due → Type
 abbrev pub Gave : Option Files → List ℕ → Option (List ℕ) → Type 0
 Gave files name given = (m : Files) → files ≡ Some m → map.get m name ≡ given
 
--- what is due for the words and the files at entry
+-- What is due for the words and the files at entry. The words are no command, or one that is not built yet, or they ask for
+-- register texts.
 pub data IsDue (words : List (List ℕ)) (files : Option Files) : Due → Type 0 where
-  no_command : command_of words ≡ None → IsDue words files due_of_no_command
-  command : {due : Due} (c : Regtool) (given : Option (List ℕ)) → command_of words ≡ Some c → Gave files c.file given → IsDueFor c given due
+  no_command : ((c : RegisterTexts) → ¬ IsRegisterTexts words c) → IsDue words files due_of_no_command
+  command : {due : Due} (c : RegisterTexts) (given : Option (List ℕ)) → IsRegisterTexts words c → Gave files c.file given → IsDueFor c given due
       → IsDue words files due

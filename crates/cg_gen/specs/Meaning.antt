@@ -1,33 +1,46 @@
 -- What the bytes that a run writes mean.
-use Rattle.std.specs.Prelude.{◌≡◌, ℕ, List, [], ◌∷◌, ◌++◌, codes, Option, Some, None}
+use Rattle.std.specs.Prelude.{◌≡◌, ℕ, ◌++◌, List, [], ◌∷◌, Contains, Option, Some, None}
 use Rattle.std.specs.FinMap as map
 use Rattle.cg_base.specs.Outside.{Files}
+use Rattle.cg_desc.specs.declared.block.LaidBlock.{LaidBlock}
+use Rattle.cg_desc.specs.declared.block.LaidFace.{LaidFace}
+use Rattle.cg_hjson.specs.declared.tree.Tree.{Tree}
 use Rattle.cg_svspec.specs.Stands.{Stands}
 use Rattle.cg_svspec.specs.Tree.{Module}
 use Rattle.cg_regspec.specs.Meaning.{RegisterMeans}
-use Rattle.cg_regspec.specs.RegisterModule.{register_module_name}
-use Rattle.cg_gen.specs.declared.form.Form.{Form}
-use Rattle.cg_gen.specs.Build.{plain_face}
-use Rattle.cg_gen.specs.Command.{Regtool, command_of}
-use Rattle.cg_gen.specs.Due.{stored_name}
-use Rattle.cg_gen.specs.Form.{IsForm}
+use Rattle.cg_words.specs.Words.{IsCommand}
+use Rattle.cg_gen.specs.Build.{output_name}
+use Rattle.cg_gen.specs.Due.{RegisterTexts, IsRegisterTexts, stored_name}
 use Rattle.cg_gen.specs.Run.{World}
+use Rattle.cg_gen.specs.Stages.{IsLaidOutAs}
 
--- The store has one more text, under the block's name in the folder of the words, and no other name changed. The text stands for one
--- module, which acts as the register block that the description asks for: its registers one after the other from offset 0 on.
-pub record WritesBlock (words : List (List ℕ)) (before : Files) (after : Option Files) : Type 0 where
-  pub command : Regtool
-  pub is_command : command_of words ≡ Some command
-  pub description : List ℕ
-  pub is_description : map.get before command.file ≡ Some description
-  pub form : Form
-  pub is_form : IsForm description form
+-- a name that the run writes
+abbrev pub text_name : RegisterTexts → LaidBlock → LaidFace → List ℕ
+text_name command laid face = stored_name command.dir (output_name laid face)
+
+-- The store holds a text for this interface, which stands for one module that acts as the interface's register block: its accesses
+-- reach its registers and windows at their offsets, and change its fields by their access kinds.
+pub record HoldsMeaning (command : RegisterTexts) (laid : LaidBlock) (after : Files) (face : LaidFace) : Type 0 where
   pub text : List ℕ
-  pub files : after ≡ Some (map.insert before (stored_name command.dir (register_module_name form.block None ++ codes ".sv")) text)
+  pub held : map.get after (text_name command laid face) ≡ Some text
   pub module_of_text : Module
   pub stands : Stands text (module_of_text ∷ [])
-  pub acts : (size : ℕ) → RegisterMeans module_of_text (plain_face size form.registers)
+  pub acts : RegisterMeans module_of_text face
+
+-- The description has no fault and its interfaces are laid out; the store holds a text of this meaning for each of them, and every
+-- other name is as it was.
+pub record WritesBlock (words : List (List ℕ)) (before after : Files) : Type 0 where
+  pub command : RegisterTexts
+  pub is_command : IsRegisterTexts words command
+  pub description : List ℕ
+  pub is_description : map.get before command.file ≡ Some description
+  pub tree : Tree
+  pub laid : LaidBlock
+  pub is_laid : IsLaidOutAs description tree laid
+  pub interfaces : (face : LaidFace) → Contains laid.faces face → HoldsMeaning command laid after face
+  pub others : (name : List ℕ) → ((face : LaidFace) → Contains laid.faces face → ¬ (name ≡ text_name command laid face))
+      → map.get after name ≡ map.get before name
 
 -- where the files are told
 abbrev pub WritesMeaning : List (List ℕ) → World → World → Type 0
-WritesMeaning words before after = (m : Files) → before.files ≡ Some m → WritesBlock words m after.files
+WritesMeaning words before after = (m : Files) → before.files ≡ Some m → (n : Files) × (after.files ≡ Some n) × WritesBlock words m n
