@@ -69,8 +69,14 @@ pub record IsValidInterface (f : FaceDesc) : Type 0 where
   pub name : IsNameIfAny f.name
   pub entries : AllOf IsValidEntry f.entries
 
+-- no two interfaces have one name, and no two have none
+abbrev pub InterfacesDiffer : List FaceDesc → Type 0
+InterfacesDiffer [] = Unit {0}
+InterfacesDiffer (f ∷ fs) = AllOf (λ g. ¬ (f.name ≡ g.name)) fs × InterfacesDiffer fs
+
 pub record IsValidBlock (b : BlockDesc) : Type 0 where
   pub name : IsName b.name
   pub interrupts : AllOf IsValidInterrupt b.intrs
   pub alerts : AllOf IsValidAlert b.alerts
   pub interfaces : AllOf IsValidInterface b.faces
+  pub interfaces_differ : InterfacesDiffer b.faces
