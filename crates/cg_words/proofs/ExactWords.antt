@@ -78,7 +78,7 @@ given-flag : (o : Option Text) → o ≡ Some (codes "true") → option_map_or (
 given-flag o e = rw e refl
 
 -- the flag of an output, among the three
-given_of : Bool → Bool → Bool → RegOut → Bool
+abbrev given_of : Bool → Bool → Bool → RegOut → Bool
 given_of registers header completed Registers = registers
 given_of registers header completed Header = header
 given_of registers header completed Completed = completed

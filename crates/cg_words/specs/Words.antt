@@ -34,7 +34,7 @@ flag_of Completed = codes "completed"
 abbrev pub AsksFor : List Text → RegOut → Type 0
 AsksFor words made = Gives regtool_app words (flag_of made) (codes "true")
 
--- `regtool`: just one of the three outputs is asked for
+-- the words after `regtool` ask for this output and no other, of a description, into a folder
 pub record IsRegtool (words : List Text) (made : RegOut) (dir file : Text) : Type 0 where
   pub accepted : IsTrue (accepts regtool_app words)
   pub asks_for : AsksFor words made
@@ -42,32 +42,32 @@ pub record IsRegtool (words : List Text) (made : RegOut) (dir file : Text) : Typ
   pub folder : Gives regtool_app words (codes "dir") dir
   pub description : Gives regtool_app words (codes "file") file
 
--- `tlgen`
+-- the words after `tlgen` name a description, and the folder of the outputs
 pub record IsTlgen (words : List Text) (file dir : Text) : Type 0 where
   pub accepted : IsTrue (accepts tlgen_app words)
   pub description : Gives tlgen_app words (codes "file") file
   pub folder : Gives tlgen_app words (codes "dir") dir
 
--- `topgen` or `session`: 1 to 64 workers
+-- the words after `topgen` or `session` name a description, the folder of the outputs, and 1 to 64 workers
 pub record IsBuild (tool : Text) (words : List Text) (file dir : Text) (workers : ℕ) : Type 0 where
   pub accepted : IsTrue (accepts (build_app tool) words)
   pub description : Gives (build_app tool) words (codes "file") file
   pub folder : Gives (build_app tool) words (codes "dir") dir
   pub count : GivesNumber (build_app tool) words (codes "workers") 1 64 workers
 
--- `probe`: an address of 32 bits
+-- the words after `probe` name a folder, a host, and an address below 2^32
 pub record IsProbe (words : List Text) (dir host : Text) (addr : ℕ) : Type 0 where
   pub accepted : IsTrue (accepts probe_app words)
   pub folder : Gives probe_app words (codes "dir") dir
   pub from_host : Gives probe_app words (codes "host") host
   pub address : GivesNumber probe_app words (codes "addr") 0 (2 ^ 32 - 1) addr
 
--- `sample`: a number from 1 to 200
+-- the word after `sample` is a number from 1 to 200
 pub record IsSample (words : List Text) (number : ℕ) : Type 0 where
   pub accepted : IsTrue (accepts sample_app words)
   pub size : GivesNumber sample_app words (codes "number") 1 200 number
 
--- the tool's name, and what the words behind it say
+-- the tool is the command's, and the words after it are those of the command
 abbrev pub NamesCommand : Text → List Text → Command → Type 0
 NamesCommand tool words (Regtool made dir file) = (tool ≡ codes "regtool") × IsRegtool words made dir file
 NamesCommand tool words (Tlgen file dir) = (tool ≡ codes "tlgen") × IsTlgen words file dir
@@ -83,7 +83,7 @@ abbrev pub IsCommand : List Text → Command → Type 0
 IsCommand [] command = ⊥
 IsCommand (tool ∷ words) command = NamesCommand tool words command
 
--- what a reader answers: the command, or that the words are none; want of memory says nothing of them
+-- what a reader answers: the command, or that the words are none; want of memory says nothing of the words
 abbrev pub ReadsCommand : List Text → Result Command WordsFault → Type 0
 ReadsCommand words (Ok command) = IsCommand words command
 ReadsCommand words (Err NotCommand) = (command : Command) → IsCommand words command → ⊥

@@ -19,4 +19,4 @@ mod values;
 
 pub use command::{Command, RegOut};
 pub use fault::WordsFault;
-pub use reading::{command_of_is_exact, read_words};
+pub use reading::{read_words, words_are_at_most_one_command};

@@ -1,4 +1,4 @@
-ghost use Rattle.std.specs.Prelude.{◌≡◌, ◌≢◌, ◌↔◌, List, true, false, IfOk, IfErr, codes, map, string_bytes};
+ghost use Rattle.std.specs.Prelude.{◌≡◌, ◌≢◌, List, true, false, IfOk, IfErr, codes, map, string_bytes};
 ghost use Rattle.clap.specs.Words.{Text as Bytes, app_of, found_of, is_simple_and_free, kind_of, matches_of, rows_of};
 ghost use Rattle.clap.specs.declared.error.kind.ErrorKind.TheVariants.{OutOfMemory};
 ghost use Rattle.cg_words.specs.declared.fault.WordsFault.TheVariants as fault;
@@ -16,17 +16,15 @@ use std::alloc::Global;
 /// The command that the words are. `words` leave out the program's name.
 ///
 /// `NotCommand` comes exactly where the words are no command.
-#[tactic(auto, using(crate::proofs::ExactWords::reads_found))]
 pub fn read_words(alloc: Global, words: &[String]) -> Result<Command, WordsFault>
-    ensures reads { ReadsCommand (map string_bytes words.now) result }
-    ensures finds { Finds (command_of (map string_bytes words.now)) result }
+    ensures { ReadsCommand (map string_bytes words.now) result }
 {
     command_in(alloc, words)
 }
 
-/// `command_of` gives exactly the command that words are, so words are at most one.
-pub fn command_of_is_exact()
-    ensures { (words : List Bytes) (c : Command) → (command_of words ≡ Some c) ↔ IsCommand words c }
+/// Words are at most one command.
+pub fn words_are_at_most_one_command()
+    ensures { (words : List Bytes) (c d : Command) → IsCommand words c → IsCommand words d → c ≡ d }
 {}
 
 fn command_in(alloc: Global, words: &[String]) -> Result<Command, WordsFault>
