@@ -195,22 +195,24 @@ regtool-named tool words c is e =
     let parts = taken_by-some regtool_app regtool_in words c e in
     regtool_with-named (output_in rows) (first_of (codes "dir") rows) (first_of (codes "file") rows) (NamesCommand tool words)
     (λ made dir file output folder description.
-        let only = one_output-only (is_given (codes "registers") rows) (is_given (codes "header") rows) (is_given (codes "completed") rows) made output in
-        (is, record {
-          accepted = parts.0;
-          asks_for = given-asks words made only.0;
-          asks_for_no_other = λ out asks. only.1 out (asks-given words out asks);
-          folder = folder;
-          description = description;
-        }))
+    let only = one_output-only (is_given (codes "registers") rows) (is_given (codes "header") rows) (is_given (codes "completed") rows) made output in (
+      is,
+      record {
+        accepted = parts.0;
+        asks_for = given-asks words made only.0;
+        asks_for_no_other = λ out asks. only.1 out (asks-given words out asks);
+        folder = folder;
+        description = description;
+      },
+    ))
     c parts.1
 
 named-regtool : (words : List Text) (made : RegOut) (dir file : Text) → IsRegtool words made dir file → taken_by regtool_app regtool_in words ≡ Some (Regtool made dir file)
 named-regtool words made dir file is =
     let rows = matches_of regtool_app words in
     let output : output_in rows ≡ Some made
-        = only-one_output (is_given (codes "registers") rows) (is_given (codes "header") rows) (is_given (codes "completed") rows) made
-        (asks-given words made is.asks_for, λ out given. is.asks_for_no_other out (given-asks words out given)) in
+    = only-one_output (is_given (codes "registers") rows) (is_given (codes "header") rows) (is_given (codes "completed") rows) made
+    (asks-given words made is.asks_for, λ out given. is.asks_for_no_other out (given-asks words out given)) in
     some-taken_by regtool_app regtool_in words (Regtool made dir file) is.accepted (rw (output, is.folder, is.description) refl)
 
 tlgen-named : (tool : Text) (words : List Text) (c : Command) → tool ≡ codes "tlgen" → taken_by tlgen_app tlgen_in words ≡ Some c → NamesCommand tool words c
@@ -270,12 +272,15 @@ probe-named tool words c is e =
     let rows = matches_of probe_app words in
     let parts = taken_by-some probe_app probe_in words c e in
     probe_with-named (first_of (codes "dir") rows) (first_of (codes "host") rows) (number_in (codes "addr") 0 (2 ^ 32 - 1) rows) (NamesCommand tool words)
-    (λ dir host addr folder from_host address. (is, record {
-      accepted = parts.0;
-      folder = folder;
-      from_host = from_host;
-      address = number_in-gives probe_app words (codes "addr") 0 (2 ^ 32 - 1) addr address;
-    }))
+    (λ dir host addr folder from_host address. (
+      is,
+      record {
+        accepted = parts.0;
+        folder = folder;
+        from_host = from_host;
+        address = number_in-gives probe_app words (codes "addr") 0 (2 ^ 32 - 1) addr address;
+      },
+    ))
     c parts.1
 
 named-probe : (words : List Text) (dir host : Text) (addr : ℕ) → IsProbe words dir host addr → taken_by probe_app probe_in words ≡ Some (Probe dir host addr)

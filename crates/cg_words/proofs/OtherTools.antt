@@ -24,9 +24,14 @@ differs a b apart = is_false (bytes_eq a b) (λ same. apart ((bytes_eq-Decides a
 
 command_by-other : (name : Text) (words : List Text) → IsOther name → command_by name words ≡ None
 command_by-other name words other =
-    rw (differs name (codes "regtool") other.not_regtool, differs name (codes "tlgen") other.not_tlgen,
-    differs name (codes "topgen") other.not_topgen, differs name (codes "session") other.not_session,
-    differs name (codes "probe") other.not_probe, differs name (codes "sample") other.not_sample) refl
+    rw (
+      differs name (codes "regtool") other.not_regtool,
+      differs name (codes "tlgen") other.not_tlgen,
+      differs name (codes "topgen") other.not_topgen,
+      differs name (codes "session") other.not_session,
+      differs name (codes "probe") other.not_probe,
+      differs name (codes "sample") other.not_sample,
+    ) refl
 
 -- such words are no command
 pub command_of-other : {X : Type 0} (text : X → Text) (xs : List X) (x : X) → 1 ≤ length xs → x ≡ get_or xs 0 x → IsOther (text x)

@@ -24,11 +24,11 @@ named_app name = on_top (λ s. record s { disable_version_flag = true })
     (on_top (λ s. record s { disable_help_flag = true })
     (on_top (λ s. record s { no_binary_name = true }) (new_app name)))
 
--- the options `-t FILE` and `-o DIR`
+-- the options `-t FILE` (116) and `-o DIR` (111)
 abbrev pub with_paths : App → App
 with_paths app = with_rule (with_rule app (option_rule (codes "file") 116)) (option_rule (codes "dir") 111)
 
--- `regtool`: the flags `-r`, `-D` and `-j`, the option `-t DIR`, and the word FILE
+-- `regtool`: the flags `-r` (114), `-D` (68) and `-j` (106), the option `-t DIR` (116), and the word FILE
 unfoldable pub regtool_app : App
 regtool_app = with_rule (with_rule (with_rule (with_rule (with_rule (named_app (codes "regtool"))
     (flag_rule (codes "registers") 114)) (flag_rule (codes "header") 68)) (flag_rule (codes "completed") 106))
@@ -38,7 +38,7 @@ regtool_app = with_rule (with_rule (with_rule (with_rule (with_rule (named_app (
 unfoldable pub tlgen_app : App
 tlgen_app = with_paths (named_app (codes "tlgen"))
 
--- `topgen` and `session`: the options `-t FILE`, `-o DIR` and `-w N`
+-- `topgen` and `session`: the options `-t FILE`, `-o DIR` and `-w N` (119)
 unfoldable pub build_app : Text → App
 build_app name = with_rule (with_paths (named_app name)) (option_rule (codes "workers") 119)
 

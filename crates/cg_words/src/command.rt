@@ -16,11 +16,7 @@ pub enum RegOut {
 #[derive(Debug, Drop, PartialEq, Eq)]
 pub enum Command {
     /// Writes one kind of output of a block.
-    Regtool {
-        made: RegOut,
-        dir: Text,
-        file: Text,
-    },
+    Regtool { made: RegOut, dir: Text, file: Text },
     /// Writes the module of a crossbar.
     Tlgen { file: Text, dir: Text },
     /// Writes all outputs of a top, with 1 to 64 workers.

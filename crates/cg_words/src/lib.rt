@@ -14,6 +14,8 @@
 mod command;
 mod fault;
 mod reading;
+#[cfg(test)]
+mod tests;
 mod tools;
 mod values;
 

@@ -115,10 +115,7 @@ fn with_word<'a>(
 }
 
 /// The command with the options of a description and of the folder of the outputs.
-fn with_file_and_dir<'a>(
-    command: Command<'a>,
-    alloc: Global,
-) -> Result<Command<'a>, AllocError>
+fn with_file_and_dir<'a>(command: Command<'a>, alloc: Global) -> Result<Command<'a>, AllocError>
     ensures { IfOk result (λ c. app_of c ≡ with_paths (app_of command.entry)) }
 {
     let command = with_option(command, alloc, "file", 't')?;
