@@ -3,3 +3,5 @@ pub mod FirstCharacter
 pub mod OneStep
 pub mod Answers
 pub mod Integers
+pub mod Puts
+pub mod JsonParts

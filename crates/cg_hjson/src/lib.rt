@@ -11,6 +11,7 @@
 mod characters;
 mod closing;
 mod comment;
+mod json_value;
 mod lines;
 mod numeral;
 mod plain;
@@ -22,6 +23,7 @@ mod steps;
 mod token;
 mod tree;
 
+pub use json_value::to_json;
 pub use reader::{HjsonFault, read};
 pub use tree::{Kind, Member, Tree};
 
