@@ -1,11 +1,11 @@
 -- The JSON value that a tree says, and the trees whose keys and numbers it keeps.
-use Rattle.std.specs.Prelude.{ℕ, ◌≡◌, List, [], ◌∷◌, Some}
+use Rattle.std.specs.Prelude.{ℕ, ◌≡◌, List, [], ◌∷◌, Option, Some, None, if◌then◌else◌}
 use Rattle.std.specs.List.{IsDistinct}
 use Rattle.std.specs.Str.{bytes_eq}
 use Rattle.serde_json.specs.Data.{Data, Items, put}
 use Rattle.serde_json.specs.Data as json
 use Rattle.serde_json.specs.Find.{of_integer}
-use Rattle.cg_docspec.specs.Tree.{Tree, tree, Kind, null, boolean, integer, string, array, object, Trees, no_trees, tree_and, Members, no_members, member_and}
+use Rattle.cg_docspec.specs.Tree.{Tree, tree, Kind, null, boolean, integer, string, array, object, Trees, no_trees, tree_and, Members, no_members, member_and, Member}
 use Rattle.cg_hjson.specs.Integers.{in_range}
 
 unfoldable mutual
@@ -78,3 +78,8 @@ KeysDiffer t = Everywhere HasKeysOnce t
 -- each integer of the tree is from -2^63 to 2^64 - 1
 abbrev pub IntegersFit : Tree → Type 0
 IntegersFit t = Everywhere HasRange t
+
+-- the value of the first member with the key
+abbrev pub value_at : List ℕ → List Member → Option Tree
+value_at key [] = None
+value_at key (m ∷ ms) = if bytes_eq key m.key then Some m.value else value_at key ms

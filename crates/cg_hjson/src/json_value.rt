@@ -1,14 +1,15 @@
 //! Trees as JSON values.
 
-ghost use Rattle.std.specs.Prelude.{◌≡◌, Some, IfOk};
+ghost use Rattle.std.specs.Prelude.{◌≡◌, ℕ, List, Some, IfOk, option_map};
 ghost use Rattle.std.specs.List.{IsDistinct};
 ghost use Rattle.std.specs.Str.{bytes_eq};
 ghost use Rattle.serde_json.specs.Data.{number};
-ghost use Rattle.serde_json.specs.Find.{of_integer};
+ghost use Rattle.serde_json.specs.Find.{get, of_integer};
 ghost use Rattle.serde_json.specs.View.{items_view, members_view, view};
-ghost use Rattle.cg_docspec.specs.Tree.{members, trees};
+ghost use Rattle.cg_docspec.specs.Place.{Place};
+ghost use Rattle.cg_docspec.specs.Tree.{Member as DocumentMember, members, object_of, trees};
 ghost use Rattle.cg_hjson.specs.Integers.{in_range};
-ghost use Rattle.cg_hjson.specs.Json.{HasKeysOnce, HasRange, InMembers, InTrees, IntegersFit, KeysDiffer, json_items, json_members, json_of, keys};
+ghost use Rattle.cg_hjson.specs.Json.{HasKeysOnce, HasRange, InMembers, InTrees, IntegersFit, KeysDiffer, json_items, json_members, json_of, keys, value_at};
 ghost use Rattle.cg_hjson.specs.Views.{members_of, tree_of, trees_of};
 
 use crate::tree::{Kind, Member, Tree};
@@ -38,6 +39,13 @@ pub fn to_json(alloc: Global, tree: &Tree) -> Result<Value, Memory>
         Kind::Object(members) => Ok(Value::from(map_of(alloc, members.as_slice())?)),
     }
 }
+
+/// An object's JSON value has just the object's members: at each key it has the value of the first
+/// member with that key, and nothing where there is none.
+pub fn members_are_kept()
+    ensures { (ms : List DocumentMember) (at : Place) (key : List ℕ)
+        → get key (json_of (object_of ms at)) ≡ option_map json_of (value_at key ms) }
+{}
 
 /// The number of an integer.
 fn integer(n: i128) -> Value

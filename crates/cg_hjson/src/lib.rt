@@ -23,7 +23,7 @@ mod steps;
 mod token;
 mod tree;
 
-pub use json_value::to_json;
+pub use json_value::{members_are_kept, to_json};
 pub use reader::{HjsonFault, read};
 pub use tree::{Kind, Member, Tree};
 
