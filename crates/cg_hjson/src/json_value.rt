@@ -35,8 +35,8 @@ pub fn to_json(alloc: Global, tree: &Tree) -> Result<Value, Memory>
         Kind::Bool(b) => Ok(Value::from(*b)),
         Kind::Int(n) => Ok(integer(*n)),
         Kind::Str(text) => Ok(Value::try_from_str(alloc, text.as_str())?),
-        Kind::Array(items) => Ok(Value::from(list_of(alloc, items.as_slice())?)),
-        Kind::Object(members) => Ok(Value::from(map_of(alloc, members.as_slice())?)),
+        Kind::Array(items) => Ok(Value::from(json_list(alloc, items.as_slice())?)),
+        Kind::Object(members) => Ok(Value::from(json_map(alloc, members.as_slice())?)),
     }
 }
 
@@ -60,8 +60,7 @@ fn integer(n: i128) -> Value
 
 /// The values of a list's trees, in order.
 #[cycle(making)]
-#[tactic(auto, using(crate::proofs::Views::parts), unfolding(crate::specs::Json::json_items))]
-fn list_of(alloc: Global, items: &[Tree]) -> Result<Vec<Value>, Memory>
+fn json_list(alloc: Global, items: &[Tree]) -> Result<Vec<Value>, Memory>
     requires keys { InTrees HasKeysOnce (trees (trees_of items.now)) }
     requires integers { InTrees HasRange (trees (trees_of items.now)) }
     ensures { IfOk result (λ list. items_view list.items ≡ json_items (trees (trees_of items.now))) }
@@ -76,8 +75,7 @@ fn list_of(alloc: Global, items: &[Tree]) -> Result<Vec<Value>, Memory>
 
 /// The values of an object's members by their keys.
 #[cycle(making)]
-#[tactic(auto, using(crate::proofs::Views::parts), unfolding(crate::specs::Json::json_members))]
-fn map_of(alloc: Global, fields: &[Member]) -> Result<Map<String, Value>, Memory>
+fn json_map(alloc: Global, fields: &[Member]) -> Result<Map<String, Value>, Memory>
     requires once { IsDistinct bytes_eq (keys (members (members_of fields.now))) }
     requires keys { InMembers HasKeysOnce (members (members_of fields.now)) }
     requires integers { InMembers HasRange (members (members_of fields.now)) }

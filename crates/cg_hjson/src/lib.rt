@@ -5,6 +5,8 @@
 //! column: an opener of depth 65, or the end of the longest prefix that begins some document. Both ways are clauses: it refuses
 //! neither too much nor too little. A machine over characters is the way of its proof, and no clause speaks of it.
 //!
+//! `to_json` gives the tree's JSON value, with its keys and values and without its places, where no object has a key twice.
+//!
 //! Not promised: that memory is found. Rules on keys and values are not read here; a text that is not UTF-8 is no `&str`.
 #![tactic(auto)]
 

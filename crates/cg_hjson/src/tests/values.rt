@@ -66,11 +66,7 @@ fn sample(alloc: Global) -> Result<Tree, Memory>
     let mut members = List::new(alloc);
     members.push(member(alloc, "b", items(alloc)?)?)?;
     members.push(member(alloc, "a", Kind::Object(List::new(alloc)))?)?;
-    members.push(member(
-        alloc,
-        "é",
-        Kind::Str(Text::of(alloc, "\"\\\n\u{1}é")?),
-    )?)?;
+    members.push(member(alloc, "é", Kind::Str(Text::of(alloc, "\"\\\n\u{1}é")?))?)?;
     members.push(member(alloc, "", Kind::Int(7))?)?;
     members.push(member(alloc, "B", Kind::Null)?)?;
     Ok(value(Kind::Object(members)))
@@ -81,8 +77,7 @@ fn members_stand_in_the_order_of_their_keys(rt: HostRuntime) -> Result<(), Fail>
     let tree = sample(rt.alloc())?;
     let value = to_json(rt.alloc(), &tree)?;
     let text = value.to_string(rt.alloc())?;
-    assert_eq!(
-        rt;
+    assert_eq!(rt;
         text.as_str(),
         "{\"\":7,\"B\":null,\"a\":{},\"b\":[null,true,false,-9223372036854775808,\
          18446744073709551615,\"1.50\",[]],\"é\":\"\\\"\\\\\\n\\u0001é\"}",
