@@ -1,10 +1,4 @@
-pub mod NamesAsText
 pub mod Alls
-pub mod FormBack
-pub mod PlainFaces
-pub mod Endings
+pub mod Puts
+pub mod Owed
 pub mod Once
-pub mod Meanings
-pub mod Dues
-pub mod FormDues
-pub mod Examples

@@ -1,5 +1,5 @@
 -- What is built of a block's file, or the first fault of it.
-use Rattle.std.specs.Prelude.{◌≡◌, ℕ, ◌<◌, ◌≤◌, List, [], ◌∷◌, ◌++◌, length, map, take, cond, codes, chars, IsUtf8, Option, Some, None}
+use Rattle.std.specs.Prelude.{◌≡◌, ℕ, ◌<◌, ◌≤◌, List, [], ◌∷◌, ◌++◌, length, map, take, cond, codes, chars, IsUtf8, Option, Some, None, Result, Ok, Err}
 use Rattle.std.specs.Str.{IsValidUpTo}
 use Rattle.std.specs.Ordering.{is_gt, nat_cmp}
 use Rattle.std.specs.Cmp.Lexicographic.{slice_cmp}
@@ -10,6 +10,8 @@ use Rattle.cg_svspec.specs.Names.{module_names, first_repeat}
 use Rattle.cg_svspec.specs.Tree.{Module}
 use Rattle.cg_desc.specs.declared.place.At.{At}
 use Rattle.cg_desc.specs.declared.fault.Fault.{Fault}
+use Rattle.cg_desc.specs.declared.fault.DescFault.{DescFault}
+use Rattle.cg_desc.specs.declared.fault.DescFault.TheVariants as refusal
 use Rattle.cg_desc.specs.declared.block.LaidBlock.{LaidBlock}
 use Rattle.cg_desc.specs.declared.block.LaidFace.{LaidFace}
 use Rattle.cg_regspec.specs.RegisterModule.{register_module, register_module_name}
@@ -91,10 +93,14 @@ unfoldable pub put_output : Output → List Output → List Output
 put_output o [] = o ∷ []
 put_output o (p ∷ ps) = cond (is_gt (slice_cmp nat_cmp p.name o.name)) (o ∷ p ∷ ps) (p ∷ put_output o ps)
 
+-- outputs that are put among others which are in order
+unfoldable pub put_outputs : List Output → List Output → List Output
+put_outputs os [] = os
+put_outputs os (p ∷ ps) = put_outputs (put_output p os) ps
+
 -- the outputs in the order of the bytes of their names
-unfoldable pub by_name : List Output → List Output
-by_name [] = []
-by_name (o ∷ os) = put_output o (by_name os)
+abbrev pub by_name : List Output → List Output
+by_name os = put_outputs [] os
 
 -- one text for each device interface
 abbrev pub register_outputs : LaidBlock → List Output
@@ -104,3 +110,11 @@ register_outputs laid = by_name (map (register_output laid) laid.faces)
 pub data IsBuilt : Option (List ℕ) → List Output → Type 0 where
   built : {bytes : List ℕ} (t : Tree) (laid : LaidBlock) → IsLaidOutAs bytes t laid → first_clash (modules_of laid) ≡ None
       → IsBuilt (Some bytes) (register_outputs laid)
+
+-- ---- what a stage of the build answers
+
+-- a value that is right, or the first fault of the file's bytes; want of memory says nothing
+abbrev pub Finds : {X : Type 0} → List ℕ → Result X DescFault → (X → Type 0) → Type 0
+Finds bytes (Ok x) IsRight = IsRight x
+Finds bytes (Err (refusal.Fault fault)) IsRight = IsFirstFault (Some bytes) fault
+Finds bytes (Err refusal.Memory) IsRight = Unit {0}

@@ -1,7 +1,6 @@
-pub mod Command
-pub mod Form
-pub mod FormReading
+pub mod Stages
 pub mod Build
 pub mod Due
+pub mod Texts
 pub mod Run
 pub mod Meaning

@@ -44,7 +44,7 @@ pub record HasItems (bytes : List ℕ) (t : Tree) : Type 0 where
   pub sound : (f : Finding) → ¬ BreaksNamesOrCounts (description t) f
 
 -- the block's items are laid out so
-pub record IsLaidOutAs (bytes : List ℕ) (t : Tree) (laid : LaidBlock) : Type 0 where
+pub record IsLaidOutAs (bytes : List ℕ) (t : Tree) (l : LaidBlock) : Type 0 where
   pub items : HasItems bytes t
   pub sound : (f : Finding) → ¬ BreaksOffsetsOrGates (description t) f
-  pub laid : IsLaidBlock (description t) laid
+  pub laid : IsLaidBlock (description t) l

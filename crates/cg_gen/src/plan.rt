@@ -2,15 +2,15 @@
 
 ghost use Rattle.std.specs.Prelude.{◌≡◌, ◌<◌, map, string_bytes, Some, None, IfOk, OnErr, IsErrOf, Option, List, ℕ};
 ghost use Rattle.cg_base.specs.Outside.{Rose};
-ghost use Rattle.cg_gen.specs.Command.{Regtool, command_of};
 ghost use Rattle.cg_gen.specs.Due.{IsDue, IsDueFor, Gave, due_of_no_command, usage};
 
-use crate::build::{LIMIT, given_due};
+use crate::build::given_due;
 use crate::due::Due;
-use crate::faults::{absent_due, not_built_due};
+use crate::faults::file_due;
+use crate::file::LIMIT;
 use crate::stop::Stop;
-use crate::words::read_words;
 use cg_base::{Found, List, Memory, Store, StoreFault, Text};
+use cg_words::{Command, RegOut, WordsFault, read_words};
 use std::alloc::Global;
 
 #[tactic(auto, unfolding(crate::specs::Due::usage))]
@@ -46,12 +46,12 @@ fn command_due<S: Store>(alloc: Global, dir: &str, file: &str, store: &mut S) ->
     };
     match found {
         Found::Yes => Ok(given_due(alloc, dir, file, &bytes)?),
-        Found::Absent => Ok(absent_due(alloc, file)?),
-        Found::Large => Ok(not_built_due(alloc, file)?),
+        Found::Absent => Ok(file_due(alloc, file, 10)?),
+        Found::Large => Ok(file_due(alloc, file, 11)?),
     }
 }
 
-/// What is due for the words.
+/// What is due for the words. Of the commands, those that ask for register texts are built.
 pub fn plan<S: Store>(alloc: Global, words: &[String], store: &mut S) -> Result<Due, Stop>
     ensures due { IfOk result (λ d. IsDue (map string_bytes words.now) (S.content store.old) d) }
     ensures status { IfOk result (λ d. d.status < 3) }
@@ -59,8 +59,13 @@ pub fn plan<S: Store>(alloc: Global, words: &[String], store: &mut S) -> Result<
     ensures same { S.content store.new ≡ S.content store.old }
     ensures changes { S.change_faults store.new ≡ S.change_faults store.old }
 {
-    match read_words(words) {
-        Some(command) => Ok(command_due(alloc, command.dir, command.file, store)?),
-        None => Ok(usage_due(alloc)?),
+    match read_words(alloc, words) {
+        Ok(Command::Regtool {
+            made: RegOut::Registers,
+            dir,
+            file,
+        }) => Ok(command_due(alloc, dir.as_str(), file.as_str(), store)?),
+        Ok(_) | Err(WordsFault::NotCommand) => Ok(usage_due(alloc)?),
+        Err(WordsFault::Memory) => Err(Stop::Memory),
     }
 }
