@@ -12,7 +12,7 @@ use Rattle.cg_keys.specs.Table.{value_at}
 use Rattle.cg_keys.specs.Elements.{elements}
 use Rattle.cg_keys.specs.Lookups.{text_at, is_fit_at}
 use Rattle.cg_keys.specs.declared.forms.Form.TheVariants.{Name, Word}
-use Rattle.cg_keys.specs.declared.forms.Words.TheVariants.{Direction}
+use Rattle.cg_keys.specs.declared.words.Words.TheVariants.{Direction}
 
 -- ---- the interfaces
 

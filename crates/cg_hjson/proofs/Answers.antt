@@ -1,5 +1,5 @@
 -- A call that tells the right answer tells the truth.
-use Rattle.std.proofs.Common.{◌≡◌, ℕ, List, Result, Ok, Err, sym, ◌∙◌, subst}
+use Rattle.std.proofs.Common.{◌≡◌, ℕ, List, Result, Ok, Err, subst}
 use Rattle.std.specs.Prelude.{IfOk}
 use Rattle.cg_docspec.specs.SyntaxFault.{Answer, IsAnswer}
 use Rattle.cg_hjson.specs.declared.tree.Tree.{Tree}

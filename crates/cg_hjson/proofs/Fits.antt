@@ -1,9 +1,9 @@
 -- The integers of a document are in range.
-use Rattle.std.proofs.Common.{◌≡◌, ℕ, zero, suc, ◌^◌, ◌<◌, ◌≤◌, pos, negsuc, neg_ℤ, ◌-ℤ◌, ℤ, true, false, List, [], ◌∷◌, Some, None, nat_lt, arith, refl, sym, ap, ◌∙◌, subst, Result, Ok, Err}
+use Rattle.std.proofs.Common.{◌≡◌, ℕ, zero, suc, ◌^◌, ◌<◌, ◌≤◌, pos, negsuc, ◌-ℤ◌, ℤ, true, List, Some, nat_lt, arith, refl, subst}
 use Rattle.std.proofs.lemmas.Bool.Decides.{nat_tests}
 use Rattle.std.proofs.lemmas.Int.{ints}
 use Rattle.cg_docspec.specs.Place.{Place}
-use Rattle.cg_docspec.specs.Tree.{Tree, tree, Kind, Member, members, trees}
+use Rattle.cg_docspec.specs.Tree.{Tree, Kind, Member, members, trees}
 use Rattle.cg_docspec.specs.Literal.{Literal, true_literal, false_literal, null_literal, integer_literal, other_number, Integer, from_zero, to_zero, value_of}
 use Rattle.cg_docspec.specs.Document.{Leaf, quoted, lines, literal, unquoted, Value, object_value, list_value, leaf_value, ValueRun, no_value, one_value, MemberRun, no_member, one_member, Object, object, Document, document}
 use Rattle.cg_hjson.specs.Integers.{in_range}

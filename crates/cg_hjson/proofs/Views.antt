@@ -1,5 +1,5 @@
 -- The view of a tree at each of its forms.
-use Rattle.std.proofs.Common.{◌≡◌, ℕ, ℤ, Bool, List, map, ◌∙◌, ap, sym}
+use Rattle.std.proofs.Common.{◌≡◌, ℕ, ℤ, Bool, List, ◌∙◌, ap, sym}
 use Rattle.cg_docspec.specs.Tree as document
 use Rattle.cg_desc.specs.declared.place.At.{At}
 use Rattle.cg_hjson.specs.Views.{member, place_of, kind_of, member_of, tree_of, trees_of, members_of, kind_level, member_level, tree_level}

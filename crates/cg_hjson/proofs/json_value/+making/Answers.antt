@@ -1,8 +1,8 @@
-use Rattle.std.proofs.Common.{◌≡◌, List, rules, subst, sym}
+use Rattle.std.proofs.Common.{rules}
 use Rattle.serde_json.specs.View.{view, members_view}
-use Rattle.cg_docspec.specs.Tree.{members, trees}
-use Rattle.cg_hjson.specs.Json.{HasKeysOnce, HasRange, InMembers, InTrees}
-use Rattle.cg_hjson.specs.Views.{members_of, trees_of}
+use Rattle.cg_docspec.specs.Tree.{members}
+use Rattle.cg_hjson.specs.Json.{HasKeysOnce, HasRange}
+use Rattle.cg_hjson.specs.Views.{members_of}
 use Rattle.cg_hjson.proofs.JsonParts.{item_step, items_done, put_all-once, member_step, members_done, in_list, in_object, in_trees, in_members}
 use Rattle.cg_hjson.specs.declared.tree.Kind.{the_lemmas}
 use Rattle.cg_hjson.proofs.json_value.+making.Goals as goal

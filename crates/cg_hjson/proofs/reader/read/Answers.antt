@@ -1,5 +1,4 @@
 use Rattle.std.specs.Str.{chars}
-use Rattle.cg_docspec.specs.SyntaxFault.{Answer, IsAnswer}
 use Rattle.cg_docspec.specs.Machine.Run.{answer}
 use Rattle.cg_docspec.proofs.Answering.Answers.{is_answer, one_answer}
 use Rattle.cg_hjson.proofs.Answers.{fits_by, right_by, tells_by}
