@@ -2,6 +2,7 @@
 #![tactic(auto)]
 
 
+mod duplicates;
 mod forms;
 mod lists;
 mod lookups;
@@ -10,6 +11,7 @@ mod table;
 mod values;
 mod words;
 
+pub use duplicates::first_duplicate;
 pub use lists::{
     elements, first_in_each, first_in_elements, first_in_items, first_in_length, first_in_list,
     first_in_object,
