@@ -1,2 +1,3 @@
 pub mod Repeats
+pub mod DuplicateKeys
 pub mod Relation

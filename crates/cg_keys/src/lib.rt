@@ -4,6 +4,7 @@
 
 mod duplicates;
 mod forms;
+mod laws;
 mod lists;
 mod lookups;
 mod names;
@@ -12,6 +13,7 @@ mod values;
 mod words;
 
 pub use duplicates::first_duplicate;
+pub use laws::{repeats_are_violations, tables_find_violations};
 pub use lists::{
     elements, first_in_each, first_in_elements, first_in_items, first_in_length, first_in_list,
     first_in_object,
