@@ -1,11 +1,13 @@
 //! What the lists of findings say, as facts with their places and names.
 
-ghost use Rattle.std.specs.Prelude.{◌↔◌, List};
+ghost use Rattle.std.specs.Prelude.{◌↔◌, ◌≤◌, IsTrue, List, length, ℕ};
 ghost use Rattle.cg_desc.specs.declared.place.At.{At};
 ghost use Rattle.cg_finding.specs.Finding.{Finding, In};
 ghost use Rattle.cg_hjson.specs.declared.tree.Member.{Member};
 ghost use Rattle.cg_hjson.specs.declared.tree.Tree.{Tree};
+ghost use Rattle.cg_svspec.specs.Characters.{IsName};
 ghost use Rattle.cg_keys.specs.Duplicates.{duplicate_faults};
+ghost use Rattle.cg_keys.specs.Forms.{is_name};
 ghost use Rattle.cg_keys.specs.Table.{Key, table_faults};
 ghost use Rattle.cg_keys.specs.Violations.{BreaksTable, DuplicateKey};
 
@@ -22,4 +24,10 @@ pub fn tables_find_violations()
 #[tactic(auto, using(crate::proofs::DuplicateKeys::in_duplicate_faults, crate::proofs::DuplicateKeys::duplicate_faults_has))]
 pub fn repeats_are_violations()
     ensures { (root : Tree) (f : Finding) → In f (duplicate_faults root) ↔ DuplicateKey root f }
+{}
+
+/// The test for names passes exactly the names of at most so many characters.
+#[tactic(auto, using(crate::proofs::NameTests::is_name_tells))]
+pub fn names_pass_the_test()
+    ensures { (most : ℕ) (s : List ℕ) → IsTrue (is_name most s) ↔ (IsName s × (length s ≤ most)) }
 {}
