@@ -1,5 +1,5 @@
 -- What each kind of field can do, and its value after a clock (OpenTitan Register Tool, software and hardware access types).
-use Rattle.std.specs.Prelude.{ℕ, Bool, true, false, not, cond, ◌&&◌, ◌||◌, map, length}
+use Rattle.std.specs.Prelude.{Bool, true, false, not, cond, ◌&&◌, ◌||◌, map, length}
 use Rattle.cg_svspec.specs.Bits.{Bits, zipped, zeros, ones}
 use Rattle.cg_desc.specs.declared.block.SwAccess.{SwAccess}
 use Rattle.cg_desc.specs.declared.block.SwAccess.TheVariants.{Ro, Rc, Rw, R0w1c, Rw1s, Rw1c, Rw0c, Wo, Nothing}

@@ -1,12 +1,12 @@
 -- The step of a register block in one clock. It takes a target and the clock's wires, decodes no address, and knows no wire of
 -- the text that is written (OpenTitan Register Tool; TL-UL register adapter, its register side).
-use Rattle.std.specs.Prelude.{◌≡◌, ℕ, suc, ◌+◌, ◌-◌, ◌/◌, max, eqb, nat_eq, Bool, true, false, not, cond, ◌&&◌, ◌||◌, List, [], ◌∷◌, ◌++◌, take, drop, Option, Some, None}
+use Rattle.std.specs.Prelude.{◌≡◌, ℕ, suc, ◌+◌, ◌-◌, ◌/◌, max, eqb, Bool, true, false, not, cond, ◌&&◌, ◌||◌, List, [], ◌∷◌, ◌++◌, take, drop, Option, Some, None}
 use Rattle.std.specs.Str.{str_eq_ignore_ascii_case}
 use Rattle.cg_svspec.specs.Bits.{Bits, bits, any_bit, all_bits, zeros, ones}
 use Rattle.cg_desc.specs.AccessTable.{is_readable, is_writable, hardware_writes, hardware_sees, after_hardware, next_value}
 use Rattle.cg_desc.specs.Target.{Target, register, word, error}
 use Rattle.cg_desc.specs.declared.block.SwAccess.{SwAccess}
-use Rattle.cg_desc.specs.declared.block.SwAccess.TheVariants.{Ro, Rc, Rw, R0w1c, Rw1s, Rw1c, Rw0c, Wo, Nothing}
+use Rattle.cg_desc.specs.declared.block.SwAccess.TheVariants.{Ro, Wo}
 use Rattle.cg_desc.specs.declared.block.FieldDesc.{FieldDesc}
 use Rattle.cg_desc.specs.declared.block.RegDesc.{RegDesc}
 use Rattle.cg_desc.specs.declared.block.WindowDesc.{WindowDesc}

@@ -1,6 +1,10 @@
 pub mod AccessTable
 pub mod Target
+pub mod Address
 pub mod BlockStep
 pub mod Laid
+pub mod Items
+pub mod Offsets
+pub mod Valid
 pub mod Faults
 pub mod FaultText

@@ -9,11 +9,13 @@
 //! register block in one clock over a target, which knows nothing of the text that is written.
 #![tactic(auto)]
 
+mod address;
 mod block;
 mod fault;
 mod fault_line;
 mod place;
 
+pub use address::Place;
 pub use block::{
     AlertDesc, BlockDesc, ClockDesc, FaceDesc, FaceItems, FieldDesc, HostFace, HwAccess, IntrDesc,
     IoDesc, IoDir, Item, LaidBlock, LaidFace, LaidRow, MultiDesc, RegDesc, SwAccess, WindowDesc,

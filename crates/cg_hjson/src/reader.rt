@@ -1,10 +1,11 @@
-ghost use Rattle.std.specs.Prelude.{◌≡◌, ◌+◌, ◌≤◌, ◌<◌, ◌^◌, length};
+ghost use Rattle.std.specs.Prelude.{◌≡◌, ◌+◌, ◌≤◌, ◌<◌, ◌^◌, IfOk, length};
 ghost use Rattle.std.specs.Str.{chars};
 ghost use Rattle.cg_docspec.specs.Place.{next_place};
 ghost use Rattle.cg_docspec.specs.SyntaxFault.{Answer, IsAnswer};
 ghost use Rattle.cg_docspec.specs.Machine.Run.{answer, whole};
 ghost use Rattle.cg_docspec.specs.Machine.State.{start};
-ghost use Rattle.cg_hjson.specs.Views.{place_of};
+ghost use Rattle.cg_hjson.specs.Json.{IntegersFit};
+ghost use Rattle.cg_hjson.specs.Views.{place_of, tree_of};
 ghost use Rattle.cg_hjson.specs.Reading.{found_of, state_of};
 ghost use Rattle.cg_hjson.specs.Answers.{IsRight, Tells};
 
@@ -40,6 +41,7 @@ pub fn read(alloc: Global, text: &str) -> Result<Tree, HjsonFault>
     requires { length text.now ≤ 2 ^ 31 }
     ensures right { IsRight (chars text.now) result }
     ensures exact { (a : Answer) → IsAnswer (chars text.now) a → Tells a result }
+    ensures integers { IfOk result (λ tree. IntegersFit (tree_of tree)) }
 {
     run(alloc, text)
 }

@@ -1,0 +1,4 @@
+pub mod Finding
+pub mod Found
+pub mod Refusal
+pub mod Violations

@@ -1,0 +1,7 @@
+pub mod Values
+pub mod Forms
+pub mod Table
+pub mod Elements
+pub mod Lookups
+pub mod Duplicates
+pub mod Violations
