@@ -1,5 +1,5 @@
 -- What is found value by value is exactly the command that the words are.
-use Rattle.std.proofs.Common.{◌≡◌, ℕ, ◌≤◌, ◌-◌, ◌^◌, ◌⊎◌, inl, inr, Bool, true, false, ◌&&◌, List, [], ◌∷◌, Option, Some, None, Result, Ok, Err, option_and_then, option_map, if◌then◌else◌, nat_le, codes, arith, refl, sym, ap, subst, ◌∙◌}
+use Rattle.std.proofs.Common.{◌≡◌, ℕ, ◌≤◌, ◌-◌, ◌^◌, Bool, true, false, ◌&&◌, List, [], ◌∷◌, Option, Some, None, Result, Ok, Err, option_and_then, option_map, if◌then◌else◌, nat_le, codes, refl, sym, ap, subst, ◌∙◌}
 use Rattle.std.specs.Option.{option_map_or}
 use Rattle.std.specs.Str.{bytes_eq}
 use Rattle.std.proofs.lemmas.Bool.{leb-true, le-leb, and_parts, false≢true}
@@ -7,11 +7,10 @@ use Rattle.std.proofs.lemmas.Option.{none-some, same_Some}
 use Rattle.std.proofs.lemmas.Slice.Eq.{bytes_eq-Decides}
 use Rattle.clap.specs.Walk.{Row, Text, first_of}
 use Rattle.clap.specs.Simple.{App, matches_of}
-use Rattle.cg_base.specs.Number.{IsNumber}
 use Rattle.cg_base.specs.Number.Scan.{number_of}
 use Rattle.cg_base.proofs.Numbers.{number_of-IsNumber, IsNumber-number_of}
 use Rattle.cg_words.specs.Tools.{accepts, build_app, probe_app, regtool_app, sample_app, tlgen_app}
-use Rattle.cg_words.specs.Words.{Gives, GivesNumber, flag_of, AsksFor, IsRegtool, IsTlgen, IsBuild, IsProbe, IsSample, NamesCommand, IsCommand, ReadsCommand}
+use Rattle.cg_words.specs.Words.{GivesNumber, AsksFor, IsRegtool, IsTlgen, IsBuild, IsProbe, IsSample, NamesCommand, IsCommand, ReadsCommand}
 use Rattle.cg_words.specs.Words.Reading.{is_given, one_output, output_in, if_between, number_between, number_in, regtool_with, regtool_in, tlgen_with, tlgen_in, build_with, build_in, topgen_in, session_in, probe_with, probe_in, sample_with, sample_in, taken_by, command_by, command_of, Finds}
 use Rattle.cg_words.specs.declared.reading.Build.{Build}
 use Rattle.cg_words.specs.declared.command.RegOut.{RegOut}

@@ -1,7 +1,7 @@
 //! The values that the words give the arguments of a tool.
 
-ghost use Rattle.std.specs.Prelude.{◌≡◌, ◌≤◌, ℕ, IfSome, option_and_then, option_map};
-ghost use Rattle.clap.specs.Words.{first_of, found_of, rows_of};
+ghost use Rattle.std.specs.Prelude.{◌≡◌, ◌≤◌, IfSome};
+ghost use Rattle.clap.specs.Words.{found_of, rows_of};
 ghost use Rattle.cg_words.specs.Words.Reading.{is_given, number_between, number_in, one_output, output_in};
 
 use crate::RegOut;
