@@ -1,5 +1,5 @@
 -- What is due, from what the pieces say.
-use Rattle.std.proofs.Common.{◌≡◌, ℕ, ◌+◌, ◌<◌, ◌≤◌, List, [], ◌∷◌, ◌++◌, length, Option, Some, None, refl, sym, ap, ◌∙◌, subst, arith, replicate}
+use Rattle.std.proofs.Common.{◌≡◌, ℕ, suc, ◌<◌, ◌≤◌, List, [], ◌∷◌, ◌++◌, length, Option, Some, None, refl, sym, ap, ◌∙◌, subst, arith, replicate}
 use Rattle.std.specs.FinMap as map
 use Rattle.std.proofs.lemmas.List.{length-replicate}
 use Rattle.cg_base.specs.Outside.{Files, ReadAnswers}
@@ -15,8 +15,9 @@ use Rattle.cg_words.specs.declared.command.Command.TheVariants.{Regtool}
 use Rattle.cg_words.specs.declared.command.RegOut.TheVariants.{Registers}
 use Rattle.cg_gen.specs.declared.due.Change.{Change}
 use Rattle.cg_gen.specs.declared.due.Due.{Due}
+use Rattle.cg_gen.specs.declared.words.RegisterTexts.{RegisterTexts}
 use Rattle.cg_gen.specs.Build.{Output, first_clash, modules_of, register_outputs, start, IsFirstFault, absent, large, clash, IsBuilt, built}
-use Rattle.cg_gen.specs.Due.{RegisterTexts, IsRegisterTexts, IsDueFor, refuses, builds, Gave, IsDue, no_command, command, changes_of, built_line, due_of_fault, due_of_outputs, due_of_no_command}
+use Rattle.cg_gen.specs.Due.{IsRegisterTexts, IsDueFor, refuses, builds, Gave, IsDue, no_command, command, changes_of, built_line, due_of_fault, due_of_outputs, due_of_no_command}
 use Rattle.cg_gen.specs.Stages.{limit, IsLaidOutAs}
 
 -- a fault is told
@@ -25,7 +26,7 @@ fault_is_due c given fault d first is = subst (IsDueFor c given) (sym is) (refus
 
 length_changes : (dir : List ℕ) (os : List Output) → length (changes_of dir os) ≡ length os
 length_changes dir [] = refl
-length_changes dir (o ∷ os) = ap (λ n. n + 1) (length_changes dir os)
+length_changes dir (o ∷ os) = ap suc (length_changes dir os)
 
 -- the outputs are written
 pub texts_are_due : (c : RegisterTexts) (bytes : List ℕ) (t : Tree) (laid : LaidBlock) (changes : List Change) (d : Due) → IsLaidOutAs bytes t laid → first_clash (modules_of laid) ≡ None
@@ -78,8 +79,11 @@ given_large None name c d found old new told is due = large_untold name c d due
 given_large (Some m) name c d found old new told is due = let a = at (Some m) name c d found old new told Large is m refl in large_told m name c d a.0 a.1 a.2 due
 
 -- the words and what a store gave
-pub planned : (words : List (List ℕ)) (files : Option Files) (c : RegisterTexts) (d : Due) → IsRegisterTexts words c → Given files c.file c d → IsDue words files d
-planned words files c d is given = command c given.0 is given.1 given.2
+pub planned : (words : List (List ℕ)) (files : Option Files) (c : RegisterTexts) (dir file : List ℕ) (d : Due) → IsRegisterTexts words c → dir ≡ c.dir → file ≡ c.file
+    → Given files file (record { dir = dir; file = file }) d → IsDue words files d
+planned words files c dir file d is same_dir same_file given =
+    let here = subst (λ z. Given files z.file z d) (λ i. record { dir = same_dir i; file = same_file i }) given in
+    command c here.0 is here.1 here.2
 
 -- the words are another command, or none
 pub usage_planned : (words : List (List ℕ)) (files : Option Files) (d : Due) → ((c : RegisterTexts) → ¬ IsRegisterTexts words c) → d ≡ due_of_no_command → IsDue words files d

@@ -1,4 +1,10 @@
 pub mod Alls
 pub mod Puts
+pub mod Found
+pub mod Modules
+pub mod Loops
+pub mod Commands
+pub mod Dues
 pub mod Owed
 pub mod Once
+pub mod Endings

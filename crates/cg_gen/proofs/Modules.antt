@@ -1,5 +1,5 @@
 -- The modules of a block that is laid out, of which no name repeats, act as its interfaces.
-use Rattle.std.proofs.Common.{◌≡◌, ℕ, ◌+◌, ◌<◌, ◌≤◌, arith, List, [], ◌∷◌, map, length, Option, Some, None, refl, sym, ap, ◌∙◌, subst}
+use Rattle.std.proofs.Common.{◌≡◌, ℕ, suc, ◌<◌, ◌≤◌, arith, List, [], ◌∷◌, map, length, Option, Some, None, refl, sym, ap, ◌∙◌, subst}
 use Rattle.cg_svspec.specs.Characters.{IsName}
 use Rattle.cg_svspec.specs.Names.{first_repeat, module_names}
 use Rattle.cg_svspec.specs.Printable.{AllOf, IsPrintable}
@@ -34,7 +34,7 @@ names_kept (f ∷ fs) (i ∷ is) [] all laid = absurd laid
 -- and there are as many of them
 count_kept : (faces : List FaceDesc) (items : List FaceItems) (laids : List LaidFace) → AreLaidOut faces items laids → length laids ≡ length faces
 count_kept [] [] [] laid = refl
-count_kept (f ∷ fs) (i ∷ is) (l ∷ ls) laid = ap (λ n. n + 1) (count_kept fs is ls laid.2)
+count_kept (f ∷ fs) (i ∷ is) (l ∷ ls) laid = ap suc (count_kept fs is ls laid.2)
 count_kept [] [] (l ∷ ls) laid = absurd laid
 count_kept [] (i ∷ is) ls laid = absurd laid
 count_kept (f ∷ fs) [] ls laid = absurd laid

@@ -12,17 +12,20 @@ use Rattle.cg_blkread.specs.Reads.{Violates as BreaksKeysOrValues}
 use Rattle.cg_expand.specs.Violations.{Violates as BreaksNamesOrCounts}
 use Rattle.cg_layout.specs.Violations.{Violates as BreaksOffsetsOrGates}
 use Rattle.cg_layout.specs.Lays.{IsLaidBlock}
+use Rattle.cg_words.specs.declared.command.Command.{Command}
 use Rattle.cg_words.specs.declared.command.Command.TheVariants.{Regtool}
 use Rattle.cg_words.specs.declared.command.RegOut.TheVariants.{Registers}
 use Rattle.cg_words.proofs.ExactWords.{one_command}
-use Rattle.cg_gen.proofs.Owed.{seen_alike, laid_once}
+use Rattle.cg_hjson.proofs.SeenWhole.{seen_alike}
+use Rattle.cg_gen.proofs.Owed.{laid_once}
 use Rattle.cg_desc.specs.declared.fault.Fault.{Fault}
 use Rattle.cg_desc.specs.declared.block.LaidBlock.{LaidBlock}
 use Rattle.cg_hjson.specs.Views.{tree_of}
 use Rattle.cg_hjson.specs.declared.tree.Tree.{Tree}
 use Rattle.cg_gen.specs.declared.due.Due.{Due}
+use Rattle.cg_gen.specs.declared.words.RegisterTexts.{RegisterTexts}
 use Rattle.cg_gen.specs.Build.{Output, first_clash, modules_of, IsFirstFault, absent, large, not_utf8, no_document, too_deep as deep, keys_or_values, names_or_counts, offsets_or_gates, clash, IsBuilt, built}
-use Rattle.cg_gen.specs.Due.{RegisterTexts, IsRegisterTexts, IsDueFor, refuses, builds, Gave, IsDue, no_command, command}
+use Rattle.cg_gen.specs.Due.{IsRegisterTexts, IsDueFor, refuses, builds, Gave, IsDue, no_command, command}
 use Rattle.cg_gen.specs.Stages.{limit, description, HasTree, IsBlock, HasItems, IsLaidOutAs}
 
 -- bytes of which not all are UTF-8 are none
@@ -71,9 +74,19 @@ status_for c given d e (refuses f a) (builds os b) = absurd (not_both given f os
 status_for c given d e (builds os a) (refuses f b) = absurd (not_both given f os b a)
 status_for c given d e (builds os a) (builds ps b) = refl
 
+abbrev dir_in : Command → List ℕ
+dir_in (Regtool made dir file) = dir
+dir_in _ = []
+
+abbrev file_in : Command → List ℕ
+file_in (Regtool made dir file) = file
+file_in _ = []
+
 -- words ask for register texts in one way
 pub same_command : (words : List (List ℕ)) (c b : RegisterTexts) → IsRegisterTexts words c → IsRegisterTexts words b → b ≡ c
-same_command words c b is is2 = let e = one_command words (Regtool Registers b.dir b.file) (Regtool Registers c.dir c.file) is2 is in cc
+same_command words c b is is2 =
+    let e = one_command words (Regtool Registers b.dir b.file) (Regtool Registers c.dir c.file) is2 is in
+    (λ i. record { dir = dir_in (e i); file = file_in (e i) })
 
 status_of_commands : (words : List (List ℕ)) (m : Files) (c b : RegisterTexts) (given other : Option (List ℕ)) (d e : Due) → IsRegisterTexts words c → IsRegisterTexts words b
     → Gave (Some m) c.file given → Gave (Some m) b.file other → IsDueFor c given d → IsDueFor b other e → d.status ≡ e.status

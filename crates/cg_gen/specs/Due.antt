@@ -7,6 +7,7 @@ use Rattle.cg_desc.specs.FaultText.{fault_line}
 use Rattle.cg_desc.specs.declared.fault.Fault.{Fault}
 use Rattle.cg_gen.specs.declared.due.Change.{Change}
 use Rattle.cg_gen.specs.declared.due.Due.{Due}
+use Rattle.cg_gen.specs.declared.words.RegisterTexts.{RegisterTexts}
 use Rattle.cg_words.specs.Words.{IsCommand}
 use Rattle.cg_words.specs.declared.command.Command.TheVariants.{Regtool}
 use Rattle.cg_words.specs.declared.command.RegOut.TheVariants.{Registers}
@@ -49,11 +50,6 @@ abbrev pub due_of_no_command : Due
 due_of_no_command = record { changes = []; line = usage; status = 2 }
 
 -- ---- the commands that are built
-
--- the register texts of a block, into a folder
-pub record RegisterTexts : Type 0 where
-  pub dir : List ℕ
-  pub file : List ℕ
 
 -- the words ask for register texts
 abbrev pub IsRegisterTexts : List (List ℕ) → RegisterTexts → Type 0

@@ -8,9 +8,9 @@ use Rattle.cg_hjson.specs.declared.tree.Tree.{Tree}
 use Rattle.cg_svspec.specs.Stands.{Stands}
 use Rattle.cg_svspec.specs.Tree.{Module}
 use Rattle.cg_regspec.specs.Meaning.{RegisterMeans}
-use Rattle.cg_words.specs.Words.{IsCommand}
 use Rattle.cg_gen.specs.Build.{output_name}
-use Rattle.cg_gen.specs.Due.{RegisterTexts, IsRegisterTexts, stored_name}
+use Rattle.cg_gen.specs.Due.{IsRegisterTexts, stored_name}
+use Rattle.cg_gen.specs.declared.words.RegisterTexts.{RegisterTexts}
 use Rattle.cg_gen.specs.Run.{World}
 use Rattle.cg_gen.specs.Stages.{IsLaidOutAs}
 

@@ -4,8 +4,9 @@ ghost use Rattle.std.specs.Prelude.{◌≡◌, IfOk, Some, length};
 ghost use Rattle.cg_svspec.specs.Printable.{AllOf};
 ghost use Rattle.cg_desc.specs.Laid.{IsLaid};
 ghost use Rattle.cg_desc.specs.Valid.{IsValidBlock};
+ghost use Rattle.cg_finding.specs.Finding.{finding, in_file};
 ghost use Rattle.cg_gen.specs.Due.{IsDueFor, built_line};
-ghost use Rattle.cg_gen.specs.Stages.{HasTree, IsLaidOutAs};
+ghost use Rattle.cg_gen.specs.Stages.{HasTree, IsLaidOutAs, description};
 
 use crate::due::{Change, Due};
 use crate::faults::fault_due;
@@ -41,7 +42,9 @@ fn changes_due(alloc: Global, changes: List<Change>) -> Result<Due, Memory>
 }
 
 /// Two names of an output are the same.
-fn clash(at: At, name: Text) -> Fault {
+fn clash(at: At, name: Text) -> Fault
+    ensures { result ≡ in_file 0 (finding 12 70 at name) }
+{
     Fault {
         phase: 12,
         rule: 70,
@@ -54,7 +57,7 @@ fn clash(at: At, name: Text) -> Fault {
 /// What is due for a block that is laid out.
 fn laid_due(alloc: Global, dir: &str, file: &str, bytes: &[u8], tree: &Tree, laid: &LaidBlock) -> Result<Due, Memory>
     requires stage { IsLaidOutAs bytes.now tree.now laid.now }
-    requires valid { IsValidBlock laid.now.desc }
+    requires valid { IsValidBlock (description tree.now) }
     requires laid { AllOf IsLaid laid.now.faces }
     ensures { IfOk result (λ d. IsDueFor (record { dir = dir.now; file = file.now }) (Some bytes.now) d) }
 {

@@ -8,10 +8,10 @@ ghost use Rattle.cg_desc.specs.Valid.{IsValidBlock};
 ghost use Rattle.cg_finding.specs.Finding.{finding};
 ghost use Rattle.cg_finding.specs.Refusal.{Names};
 ghost use Rattle.cg_gen.specs.Build.{Finds, place_behind};
-ghost use Rattle.cg_gen.specs.Stages.{HasTree, IsLaidOutAs, IsText, limit};
+ghost use Rattle.cg_gen.specs.Stages.{HasTree, IsBlock, IsLaidOutAs, IsText, description, limit};
 
 use cg_blkread::block;
-use cg_desc::{At, DescFault, LaidBlock};
+use cg_desc::{At, BlockDesc, DescFault, LaidBlock};
 use cg_expand::expand;
 use cg_finding::{Found, refusal};
 use cg_hjson::{HjsonFault, START, Tree, place_behind, read};
@@ -72,15 +72,29 @@ pub fn tree_of(alloc: Global, bytes: &[u8]) -> Result<Tree, DescFault>
     }
 }
 
+/// The items of the block, laid out.
+fn laid_items(alloc: Global, bytes: &[u8], tree: &Tree, block: BlockDesc) -> Result<LaidBlock, DescFault>
+    requires stage { IsBlock bytes.now tree.now }
+    requires block { block ≡ description tree.now }
+    requires valid { IsValidBlock block }
+    ensures finds { Finds bytes.now result (λ laid. IsLaidOutAs bytes.now tree.now laid) }
+    ensures laid { IfOk result (λ laid. AllOf IsLaid laid.faces) }
+{
+    match expand(alloc, &block) {
+        Ok(items) => lay(alloc, block, items),
+        Err(refusal) => Err(refusal),
+    }
+}
+
 /// The block that the tree describes, its interfaces laid out.
 pub fn laid_block(alloc: Global, bytes: &[u8], tree: &Tree) -> Result<LaidBlock, DescFault>
     requires { HasTree bytes.now tree.now }
     ensures finds { Finds bytes.now result (λ laid. IsLaidOutAs bytes.now tree.now laid) }
-    ensures valid { IfOk result (λ laid. IsValidBlock laid.desc) }
+    ensures valid { IfOk result (λ laid. IsValidBlock (description tree.now)) }
     ensures laid { IfOk result (λ laid. AllOf IsLaid laid.faces) }
 {
-    let block = block(alloc, tree, 0)?;
-    let items = expand(alloc, &block)?;
-    let laid = lay(alloc, block, items)?;
-    Ok(laid)
+    match block(alloc, tree, 0) {
+        Ok(block) => laid_items(alloc, bytes, tree, block),
+        Err(refusal) => Err(refusal),
+    }
 }

@@ -20,9 +20,11 @@ mod plan;
 mod stop;
 mod texts;
 mod top;
+mod words;
 
 pub use due::{Change, Due};
 pub use ending::Ending;
 pub use stop::Stop;
 pub use top::run;
+pub use words::RegisterTexts;
 

@@ -9,8 +9,8 @@ use crate::due::Due;
 use crate::faults::file_due;
 use crate::file::LIMIT;
 use crate::stop::Stop;
+use crate::words::asked_texts;
 use cg_base::{Found, List, Memory, Store, StoreFault, Text};
-use cg_words::{Command, RegOut, WordsFault, read_words};
 use std::alloc::Global;
 
 #[tactic(auto, unfolding(crate::specs::Due::usage))]
@@ -59,13 +59,8 @@ pub fn plan<S: Store>(alloc: Global, words: &[String], store: &mut S) -> Result<
     ensures same { S.content store.new ≡ S.content store.old }
     ensures changes { S.change_faults store.new ≡ S.change_faults store.old }
 {
-    match read_words(alloc, words) {
-        Ok(Command::Regtool {
-            made: RegOut::Registers,
-            dir,
-            file,
-        }) => Ok(command_due(alloc, dir.as_str(), file.as_str(), store)?),
-        Ok(_) | Err(WordsFault::NotCommand) => Ok(usage_due(alloc)?),
-        Err(WordsFault::Memory) => Err(Stop::Memory),
+    match asked_texts(alloc, words)? {
+        Some(asked) => Ok(command_due(alloc, asked.dir.as_str(), asked.file.as_str(), store)?),
+        None => Ok(usage_due(alloc)?),
     }
 }

@@ -31,7 +31,10 @@ pub fn modules(alloc: Global, laid: &LaidBlock) -> Result<List<Module>, SvRegFau
 {
     let mut modules = List::new(alloc);
     for face in 0..laid.faces.len() {
-        modules.push(reg_module(alloc, laid, face as u32)?)?;
+        match reg_module(alloc, laid, face as u32) {
+            Ok(module) => modules.push(module)?,
+            Err(fault) => return Err(fault),
+        }
     }
     Ok(modules)
 }
@@ -88,6 +91,7 @@ fn put_change(changes: &mut List<Change>, change: Change) -> Result<(), Memory>
 }
 
 /// The texts of the modules, in the order of the names under which they are stored.
+#[tactic(auto, unfolding(crate::specs::Texts::put_changes))]
 pub fn text_changes(alloc: Global, dir: &str, modules: &[Module]) -> Result<List<Change>, Memory>
     requires { AllOf IsPrintable (map module_of modules.now) }
     ensures { IfOk result (λ cs. cs ≡ put_changes [] (map (text_change dir.now) (map module_of modules.now))) }

@@ -1,4 +1,4 @@
-use Rattle.std.proofs.Common.{◌≡◌, ◌×◌, ◌++◌, map, drop}
+use Rattle.std.proofs.Common.{◌≡◌, ◌++◌, map, drop}
 use Rattle.cg_sv.specs.Views.{module_of}
 use Rattle.cg_gen.specs.Build.{first_clash, module_of_face, modules_of}
 use Rattle.cg_gen.proofs.texts.modules.Given as goal

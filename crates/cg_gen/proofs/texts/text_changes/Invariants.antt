@@ -5,4 +5,4 @@ use Rattle.cg_gen.proofs.texts.text_changes.Given as goal
 
 abbrev pub invariant-loop-module : goal.invariant-loop-module
 invariant-loop-module l =
-    put_changes l.changes (map (text_change l.dir.now) (map module_of (drop l.module-index l.modules))) ≡ put_changes [] (map (text_change l.dir.now) (map module_of l.modules))
+    put_changes l.changes (map (text_change l.dir) (map module_of (drop l.module-index l.modules))) ≡ put_changes [] (map (text_change l.dir) (map module_of l.modules))
