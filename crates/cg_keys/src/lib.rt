@@ -2,7 +2,9 @@
 #![tactic(auto)]
 
 
+mod duplicates;
 mod forms;
+mod laws;
 mod lists;
 mod lookups;
 mod names;
@@ -10,6 +12,11 @@ mod table;
 mod values;
 mod words;
 
+#[cfg(test)]
+mod tests;
+
+pub use duplicates::first_duplicate;
+pub use laws::{names_pass_the_test, repeats_are_violations, tables_find_violations};
 pub use lists::{
     elements, first_in_each, first_in_elements, first_in_items, first_in_length, first_in_list,
     first_in_object,
