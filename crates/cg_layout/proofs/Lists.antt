@@ -31,7 +31,7 @@ zip_cut : {X Y : Type 0} (xs : List X) (ys : List Y) (i : ℕ) (x d : X) (y e : 
     → x ≡ get_or xs i d → y ≡ get_or ys i e → drop i (zip xs ys) ≡ (x, y) ∷ drop (suc i) (zip xs ys)
 zip_cut [] ys i x d y e h k p q = absurd (omega arith)
 zip_cut (a ∷ xs) [] i x d y e h k p q = absurd (omega arith)
-zip_cut (a ∷ xs) (b ∷ ys) zero x d y e h k p q = ap (λ (r : X × Y). r ∷ zip xs ys) (cc)
+zip_cut (a ∷ xs) (b ∷ ys) zero x d y e h k p q = rw (p, q) refl
 zip_cut (a ∷ xs) (b ∷ ys) (suc i) x d y e h k p q = zip_cut xs ys i x d y e (omega arith) (omega arith) p q
 
 zip_length : {X Y : Type 0} (xs : List X) (ys : List Y) → length (zip xs ys) ≤ length xs

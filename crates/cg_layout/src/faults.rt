@@ -12,11 +12,22 @@ ghost use Rattle.cg_svspec.specs.Printable.{AllOf};
 use crate::gates::first_in_gates;
 use crate::items::{has_row, own_name, place_of};
 use crate::offsets::{extent_of, is_skip_back};
+use cg_base::Text;
 use cg_desc::{FaceDesc, FaceItems, Item};
 use cg_finding::{Found, earlier_of};
 
 /// The largest offset at which an item of an interface ends, in bytes.
 const END_LIMIT: u64 = 1 << 24;
+
+/// The name, or an empty one where there is none.
+fn name_or_empty(name: &Option<Text>) -> &str
+    ensures { result.now ≡ name_or_empty name.now }
+{
+    match name {
+        Some(name) => name.as_str(),
+        None => "",
+    }
+}
 
 /// An interface without a register and a window.
 fn first_without_row<'r>(face: &'r FaceDesc, items: &'r [Item]) -> Option<Found<'r>>
@@ -25,15 +36,11 @@ fn first_without_row<'r>(face: &'r FaceDesc, items: &'r [Item]) -> Option<Found<
     if has_row(items) {
         return None;
     }
-    let name = match &face.name {
-        Some(name) => name.as_str(),
-        None => "",
-    };
     Some(Found {
         phase: 5,
         rule: 33,
         at: face.at,
-        name,
+        name: name_or_empty(&face.name),
     })
 }
 

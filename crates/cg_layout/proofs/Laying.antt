@@ -1,0 +1,102 @@
+-- Rows at their offsets, item by item and interface by interface.
+use Rattle.std.proofs.Common.{◌≡◌, ℕ, ◌+◌, ◌<◌, ◌≤◌, max, Bool, true, false, List, [], ◌∷◌, ◌++◌, Option, inl, inr, length, drop, refl, sym, ap, subst, ◌∙◌, arith, append_assoc, append-nil}
+use Rattle.std.specs.Int.{IsNextPowerOfTwo}
+use Rattle.std.specs.List.{zip}
+use Rattle.std.proofs.lemmas.Bool.{cases_lt}
+use Rattle.cg_svspec.specs.Printable.{AllOf}
+use Rattle.cg_desc.specs.declared.block.FaceDesc.{FaceDesc}
+use Rattle.cg_desc.specs.declared.block.FaceItems.{FaceItems}
+use Rattle.cg_desc.specs.declared.block.Item.{Item}
+use Rattle.cg_desc.specs.declared.block.LaidRow.{LaidRow}
+use Rattle.cg_desc.specs.declared.block.LaidFace.{LaidFace}
+use Rattle.cg_desc.specs.Offsets.{Ends, HasRows, IsLaidOut, IsSpan, words_of}
+use Rattle.cg_desc.specs.Valid.{IsValidItem}
+use Rattle.cg_finding.specs.Finding.{Finding}
+use Rattle.cg_layout.specs.Inner.Extents.{Extends}
+use Rattle.cg_layout.specs.Inner.Faces.{OneBreaks}
+use Rattle.cg_layout.specs.Lays.{AreLaidOut}
+use Rattle.cg_layout.specs.Violations.{BreaksIn, BreaksOffsets, IsSkipBack, end_limit, is_row}
+use Rattle.cg_layout.proofs.Ends.{extent_ends}
+
+-- ---- one interface
+
+-- nothing of the items is broken behind what ends at `low`
+abbrev pub IsUnbroken : ℕ → List Item → Type 0
+IsUnbroken low items = (f : Finding) → ¬ BreaksOffsets low items f
+
+pub unbroken_forth : {low : ℕ} {item : Item} {items : List Item} → IsUnbroken low (item ∷ items) → ¬ IsSkipBack low item
+unbroken_forth whole skips = whole _ (BreaksOffsets.back skips)
+
+pub unbroken_within : {low end : ℕ} {item : Item} {items : List Item} → IsUnbroken low (item ∷ items) → Ends low item end → end ≤ end_limit
+unbroken_within {low} {end} whole ends = elim (cases_lt end_limit end) [
+    | inl over ↦ absurd (whole _ (BreaksOffsets.past (unbroken_forth whole) ends over))
+    | inr within ↦ within
+  ]
+
+pub unbroken_rest : {low end : ℕ} {item : Item} {items : List Item} → IsUnbroken low (item ∷ items) → Ends low item end → IsUnbroken end items
+unbroken_rest whole ends f b = whole f (BreaksOffsets.later (unbroken_forth whole) ends (unbroken_within whole ends) b)
+
+abbrev pub row_of : ℕ → Item → LaidRow
+row_of first item = record { first = first; words = words_of item; item = item }
+
+-- the rows of items with one more in front, which is a row
+with_row : {low top first end last : ℕ} {item : Item} {items : List Item} {rows : List LaidRow} → Extends low item first end → is_row item ≡ true
+    → HasRows end end items rows last → HasRows low top (item ∷ items) (row_of first item ∷ rows) last
+with_row (Extends.row s p) h has = HasRows.row s p has
+with_row Extends.skip h has = cc
+with_row Extends.reserved h has = cc
+
+-- or none
+without_row : {low top first end last : ℕ} {item : Item} {items : List Item} {rows : List LaidRow} → Extends low item first end → is_row item ≡ false
+    → HasRows end top items rows last → HasRows low top (item ∷ items) rows last
+without_row (Extends.row IsSpan.register p) h has = cc
+without_row (Extends.row (IsSpan.window n) p) h has = cc
+without_row Extends.skip h has = HasRows.skip has
+without_row Extends.reserved h has = HasRows.reserved has
+
+-- The rows so far, where `rest` of the items are left: these and the rows of the rest are the rows of all.
+pub record IsLaying (all : List Item) (low top : ℕ) (rest : List Item) (rows : List LaidRow) : Type 0 where
+  pub low_within : low ≤ end_limit
+  pub top_within : top ≤ end_limit
+  pub valid : AllOf IsValidItem rest
+  pub unbroken : IsUnbroken low rest
+  pub whole : (more : List LaidRow) (last : ℕ) → HasRows low top rest more last → HasRows 0 0 all (rows ++ more) last
+
+pub laying_start : (items : List Item) → AllOf IsValidItem items → IsUnbroken 0 items → IsLaying items 0 0 items []
+laying_start items valid unbroken = record {
+  low_within = omega arith;
+  top_within = omega arith;
+  valid = valid;
+  unbroken = unbroken;
+  whole = λ more last has. has;
+}
+
+pub laying_row : {all rest : List Item} {low top first end : ℕ} {item : Item} {rows : List LaidRow} → IsLaying all low top (item ∷ rest) rows
+    → Extends low item first end → is_row item ≡ true → IsLaying all end end rest (rows ++ row_of first item ∷ [])
+laying_row {all} {rest} {low} {top} {first} {end} {item} {rows} laying extent h = record {
+  low_within = unbroken_within laying.unbroken (extent_ends extent);
+  top_within = unbroken_within laying.unbroken (extent_ends extent);
+  valid = laying.valid.1;
+  unbroken = unbroken_rest laying.unbroken (extent_ends extent);
+  whole = λ more last has.
+      subst (λ (all_rows : List LaidRow). HasRows 0 0 all all_rows last) (sym (append_assoc rows (row_of first item ∷ []) more))
+      (laying.whole (row_of first item ∷ more) last (with_row extent h has));
+}
+
+pub laying_other : {all rest : List Item} {low top first end : ℕ} {item : Item} {rows : List LaidRow} → IsLaying all low top (item ∷ rest) rows
+    → Extends low item first end → is_row item ≡ false → IsLaying all end top rest rows
+laying_other laying extent h = record {
+  low_within = unbroken_within laying.unbroken (extent_ends extent);
+  top_within = laying.top_within;
+  valid = laying.valid.1;
+  unbroken = unbroken_rest laying.unbroken (extent_ends extent);
+  whole = λ more last has. laying.whole more last (without_row extent h has);
+}
+
+pub laying_end : {all : List Item} {low top size : ℕ} {rows : List LaidRow} {name : Option (List ℕ)} → IsLaying all low top [] rows
+    → IsNextPowerOfTwo (max top 4) size → IsLaidOut all (record { name = name; rows = rows; size = size })
+laying_end {all} {low} {top} {size} {rows} laying power = record {
+  end = top;
+  rows = subst (λ (all_rows : List LaidRow). HasRows 0 0 all all_rows top) (append-nil rows) (laying.whole [] top HasRows.none);
+  size = power;
+}
