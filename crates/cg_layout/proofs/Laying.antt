@@ -1,24 +1,16 @@
--- Rows at their offsets, item by item and interface by interface.
+-- Rows at their offsets, item by item.
 use Rattle.std.proofs.Common.{◌≡◌, ℕ, ◌+◌, ◌<◌, ◌≤◌, max, Bool, true, false, List, [], ◌∷◌, ◌++◌, Option, inl, inr, length, drop, refl, sym, ap, subst, ◌∙◌, arith, append_assoc, append-nil}
 use Rattle.std.specs.Int.{IsNextPowerOfTwo}
-use Rattle.std.specs.List.{zip}
 use Rattle.std.proofs.lemmas.Bool.{cases_lt}
 use Rattle.cg_svspec.specs.Printable.{AllOf}
-use Rattle.cg_desc.specs.declared.block.FaceDesc.{FaceDesc}
-use Rattle.cg_desc.specs.declared.block.FaceItems.{FaceItems}
 use Rattle.cg_desc.specs.declared.block.Item.{Item}
 use Rattle.cg_desc.specs.declared.block.LaidRow.{LaidRow}
-use Rattle.cg_desc.specs.declared.block.LaidFace.{LaidFace}
 use Rattle.cg_desc.specs.Offsets.{Ends, HasRows, IsLaidOut, IsSpan, words_of}
 use Rattle.cg_desc.specs.Valid.{IsValidItem}
 use Rattle.cg_finding.specs.Finding.{Finding}
 use Rattle.cg_layout.specs.Inner.Extents.{Extends}
-use Rattle.cg_layout.specs.Inner.Faces.{OneBreaks}
-use Rattle.cg_layout.specs.Lays.{AreLaidOut}
-use Rattle.cg_layout.specs.Violations.{BreaksIn, BreaksOffsets, IsSkipBack, end_limit, is_row}
+use Rattle.cg_layout.specs.Violations.{BreaksOffsets, IsSkipBack, end_limit, is_row}
 use Rattle.cg_layout.proofs.Ends.{extent_ends}
-
--- ---- one interface
 
 -- nothing of the items is broken behind what ends at `low`
 abbrev pub IsUnbroken : ℕ → List Item → Type 0
@@ -71,32 +63,40 @@ laying_start items valid unbroken = record {
   whole = λ more last has. has;
 }
 
-pub laying_row : {all rest : List Item} {low top first end : ℕ} {item : Item} {rows : List LaidRow} → IsLaying all low top (item ∷ rest) rows
-    → Extends low item first end → is_row item ≡ true → IsLaying all end end rest (rows ++ row_of first item ∷ [])
-laying_row {all} {rest} {low} {top} {first} {end} {item} {rows} laying extent h = record {
-  low_within = unbroken_within laying.unbroken (extent_ends extent);
-  top_within = unbroken_within laying.unbroken (extent_ends extent);
-  valid = laying.valid.1;
-  unbroken = unbroken_rest laying.unbroken (extent_ends extent);
-  whole = λ more last has.
-      subst (λ (all_rows : List LaidRow). HasRows 0 0 all all_rows last) (sym (append_assoc rows (row_of first item ∷ []) more))
-      (laying.whole (row_of first item ∷ more) last (with_row extent h has));
-}
+module _ {all left rest : List Item} {low top first end : ℕ} {item : Item} {rows : List LaidRow} (e : left ≡ item ∷ rest)
+    (laying : IsLaying all low top left rows) (extent : Extends low item first end) where
+  here : IsLaying all low top (item ∷ rest) rows
+  here = subst (λ items. IsLaying all low top items rows) e laying
 
-pub laying_other : {all rest : List Item} {low top first end : ℕ} {item : Item} {rows : List LaidRow} → IsLaying all low top (item ∷ rest) rows
-    → Extends low item first end → is_row item ≡ false → IsLaying all end top rest rows
-laying_other laying extent h = record {
-  low_within = unbroken_within laying.unbroken (extent_ends extent);
-  top_within = laying.top_within;
-  valid = laying.valid.1;
-  unbroken = unbroken_rest laying.unbroken (extent_ends extent);
-  whole = λ more last has. laying.whole more last (without_row extent h has);
-}
+  pub laying_within : end ≤ end_limit
+  laying_within = unbroken_within here.unbroken (extent_ends extent)
 
-pub laying_end : {all : List Item} {low top size : ℕ} {rows : List LaidRow} {name : Option (List ℕ)} → IsLaying all low top [] rows
+  pub laying_row : (words : ℕ) (pushed : List LaidRow) → is_row item ≡ true → words ≡ words_of item
+      → pushed ≡ rows ++ record { first = first; words = words; item = item } ∷ [] → IsLaying all end end rest pushed
+  laying_row words pushed h many is = record {
+    low_within = laying_within;
+    top_within = laying_within;
+    valid = here.valid.1;
+    unbroken = unbroken_rest here.unbroken (extent_ends extent);
+    whole = λ more last has.
+        rw (is, many, append_assoc rows (row_of first item ∷ []) more)
+        (here.whole (row_of first item ∷ more) last (with_row extent h has));
+  }
+
+  pub laying_other : is_row item ≡ false → IsLaying all end top rest rows
+  laying_other h = record {
+    low_within = laying_within;
+    top_within = laying.top_within;
+    valid = here.valid.1;
+    unbroken = unbroken_rest here.unbroken (extent_ends extent);
+    whole = λ more last has. here.whole more last (without_row extent h has);
+  }
+
+pub laying_end : {all left : List Item} {low top size : ℕ} {rows : List LaidRow} {name : Option (List ℕ)} → left ≡ [] → IsLaying all low top left rows
     → IsNextPowerOfTwo (max top 4) size → IsLaidOut all (record { name = name; rows = rows; size = size })
-laying_end {all} {low} {top} {size} {rows} laying power = record {
+laying_end {all} {left} {low} {top} {size} {rows} e laying power = record {
   end = top;
-  rows = subst (λ (all_rows : List LaidRow). HasRows 0 0 all all_rows top) (append-nil rows) (laying.whole [] top HasRows.none);
+  rows = subst (λ (all_rows : List LaidRow). HasRows 0 0 all all_rows top) (append-nil rows)
+      (laying.whole [] top (subst (λ items. HasRows low top items [] top) (sym e) HasRows.none));
   size = power;
 }

@@ -22,6 +22,11 @@ contains [] x is = absurd is
 contains (y ∷ ys) x (inl is) = (0, omega arith, sym is)
 contains (y ∷ ys) x (inr later) = contains_later y ys x (contains ys x later)
 
+-- a list of length 0 is empty
+pub nothing_left : {X : Type 0} (xs : List X) → length xs ≡ 0 → xs ≡ []
+nothing_left [] h = refl
+nothing_left (x ∷ xs) h = absurd (omega arith)
+
 -- what a list has from an index on
 pub cut : {X : Type 0} (xs : List X) (i : ℕ) (x d : X) → i < length xs → x ≡ get_or xs i d → drop i xs ≡ x ∷ drop (i + 1) xs
 cut xs i x d h e = rw add-one (drop-cons xs i d h ∙ ap (λ y. y ∷ drop (suc i) xs) (sym e))
@@ -34,10 +39,14 @@ zip_cut (a ∷ xs) [] i x d y e h k p q = absurd (omega arith)
 zip_cut (a ∷ xs) (b ∷ ys) zero x d y e h k p q = rw (p, q) refl
 zip_cut (a ∷ xs) (b ∷ ys) (suc i) x d y e h k p q = zip_cut xs ys i x d y e (omega arith) (omega arith) p q
 
+pub zip_front : {X Y : Type 0} (xs : List X) (ys : List Y) (i : ℕ) (x d : X) (y e : Y) → i < length xs → i < length ys
+    → x ≡ get_or xs i d → y ≡ get_or ys i e → drop i (zip xs ys) ≡ (x, y) ∷ drop (i + 1) (zip xs ys)
+zip_front xs ys i x d y e h k p q = rw add-one (zip_cut xs ys i x d y e h k p q)
+
 zip_length : {X Y : Type 0} (xs : List X) (ys : List Y) → length (zip xs ys) ≤ length xs
 zip_length [] ys = omega arith
 zip_length (x ∷ xs) [] = omega arith
 zip_length (x ∷ xs) (y ∷ ys) = omega (arith, zip_length xs ys)
 
-zip_done : {X Y : Type 0} (xs : List X) (ys : List Y) (i : ℕ) → length xs ≤ i → drop i (zip xs ys) ≡ []
+pub zip_done : {X Y : Type 0} (xs : List X) (ys : List Y) (i : ℕ) → length xs ≤ i → drop i (zip xs ys) ≡ []
 zip_done xs ys i h = drop_all i (zip xs ys) (omega (arith, zip_length xs ys))

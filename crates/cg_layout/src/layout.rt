@@ -35,7 +35,6 @@ fn laid_face(alloc: Global, face: &FaceDesc, items: List<Item>) -> Result<LaidFa
     requires unbroken { (f : Finding) → ¬ BreaksOffsets 0 items f }
     ensures { IfOk result (λ laid. (laid.name ≡ face.now.name) × IsLaidOut items laid) }
 {
-    let name = copied(&face.name)?;
     let mut rows = List::new(alloc);
     let mut low = 0;
     let mut top = 0;
@@ -52,7 +51,7 @@ fn laid_face(alloc: Global, face: &FaceDesc, items: List<Item>) -> Result<LaidFa
         }
     }
     Ok(LaidFace {
-        name,
+        name: copied(&face.name)?,
         rows,
         size: (top as u32).max(4).next_power_of_two(),
     })
