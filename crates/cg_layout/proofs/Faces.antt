@@ -12,7 +12,7 @@ use Rattle.cg_layout.specs.Inner.Faces.{OneBreaks}
 use Rattle.cg_layout.specs.Inner.Told.{TellsFirst}
 use Rattle.cg_layout.specs.Violations.{BreaksIn, Violates}
 use Rattle.cg_layout.proofs.Lists.{among, contains}
-use Rattle.cg_layout.proofs.Told.{tells_as, tells_either, tells_nothing}
+use Rattle.cg_layout.proofs.Told.{none_broken, tells_as, tells_either, tells_nothing}
 
 abbrev Face : Type 0
 Face = FaceDesc × FaceItems
@@ -71,3 +71,14 @@ pub all_items : (front : List Item) (faces : List FaceDesc) → length (items_of
 unfolding items_of_faces
 all_items front [] = refl
 all_items front (f ∷ fs) = rw (all_items [] fs) refl
+
+-- the interfaces of a block tell what the block breaks
+pub tells_block : (b : BlockDesc) {told : Option Finding} (faces : List FaceDesc) (items : List FaceItems) → faces ≡ b.faces → items ≡ items_of_block b
+    → TellsFirst told (OneBreaks (zip faces items)) → TellsFirst told (Violates b)
+tells_block b {told} faces items e is t =
+    let own : TellsFirst told (OneBreaks (zip b.faces (items_of_block b))) = rw (e, is) at t in
+    tells_as own (some_violates b) (violates_some b)
+
+pub none_violates : (b : BlockDesc) (faces : List FaceDesc) (items : List FaceItems) → faces ≡ b.faces → items ≡ items_of_block b
+    → TellsFirst None (OneBreaks (zip faces items)) → (f : Finding) → ¬ Violates b f
+none_violates b faces items e is t = none_broken (tells_block b faces items e is t)

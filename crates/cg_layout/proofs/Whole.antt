@@ -1,5 +1,5 @@
 -- A block that breaks no rule is laid out whole.
-use Rattle.std.proofs.Common.{◌≡◌, ℕ, ◌+◌, ◌-◌, ◌*◌, ◌^◌, ◌<◌, ◌≤◌, Bool, true, false, not, ◌&&◌, ◌||◌, cond, List, [], ◌∷◌, ◌⊎◌, inl, inr, Option, Some, None, eqb-eq, ◌==◌, refl, sym, ap, subst, ◌∙◌, arith}
+use Rattle.std.proofs.Common.{◌≡◌, ℕ, ◌+◌, ◌-◌, ◌*◌, ◌^◌, ◌<◌, ◌≤◌, Bool, true, false, not, ◌&&◌, ◌||◌, cond, List, [], ◌∷◌, ◌⊎◌, inl, inr, Option, Some, None, eqb-true, ◌==◌, refl, sym, ap, subst, ◌∙◌, arith}
 use Rattle.std.specs.Int.{IsNextPowerOfTwo}
 use Rattle.std.specs.List.{Contains}
 use Rattle.std.proofs.lemmas.Bool.{cases_lt}
@@ -54,7 +54,7 @@ gate_by g false [] e = cc
 gate_by g false (f ∷ []) e =
     let one = both (f.msb == f.lsb) (is_readable f.sw && not f.mubi) e in
     let readable = both (is_readable f.sw) (not f.mubi) one.1 in
-    (refl, (eqb-eq f.msb f.lsb one.0, readable.0))
+    (refl, (eqb-true f.msb f.lsb one.0, readable.0))
 gate_by g false (f ∷ (h ∷ fields)) e = cc
 
 gate_is_gate : (g : RegDesc) → is_gate g ≡ true → IsGate g
@@ -96,7 +96,7 @@ register_fits all low first r p valid gate =
 
 -- a power of two that is at least 4 is 4 times one
 at_least_2 : (k : ℕ) → 4 ≤ 2 ^ k → (k < 2) ⊎ (2 ≤ k) → 2 ≤ k
-at_least_2 k h (inl less) = let low : 2 ^ k ≤ 2 ^ 1 = pow_mono (omega arith) in absurd (omega arith)
+at_least_2 k h (inl less) = let low : 2 ^ k ≤ 2 ^ 1 = pow_mono {i = k} {j = 1} (omega arith) in absurd (omega arith)
 at_least_2 k h (inr more) = more
 
 quarter : (k : ℕ) → 2 ≤ k → 2 ^ k ≡ 4 * 2 ^ (k - 2)
