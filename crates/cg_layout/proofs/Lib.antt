@@ -7,3 +7,4 @@ pub mod Laying
 pub mod Placing
 pub mod Once
 pub mod Whole
+mod Examples

@@ -9,3 +9,6 @@ mod layout;
 mod offsets;
 
 pub use layout::lay;
+
+#[cfg(test)]
+mod tests;
