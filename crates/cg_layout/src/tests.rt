@@ -1,12 +1,10 @@
 //! Layouts of small interfaces, and their faults.
 
 ghost use Rattle.std.specs.Prelude.{◌≡◌, ◌<◌, ◌≤◌, ◌^◌, [], ◌∷◌, IfOk, option_map};
-ghost use Rattle.std.specs.List.{flat_map};
 ghost use Rattle.cg_svspec.specs.Characters.{IsWord};
-ghost use Rattle.cg_svspec.specs.Printable.{AllOf};
 ghost use Rattle.cg_desc.specs.Items.{entry_items};
 ghost use Rattle.cg_desc.specs.Valid.{IsValidItem};
-ghost use Rattle.cg_layout.specs.Example.{a_bit, a_register, a_window, at_byte, bits_of};
+ghost use Rattle.cg_layout.specs.Example.{a_bit, a_register, a_window, at_byte, bits_of, IsSketch};
 
 use crate::lay;
 use cg_base::{List, Memory, Text};
@@ -103,12 +101,12 @@ fn window(alloc: Global, items: u32, byte: u32) -> Result<WindowDesc, Memory>
 struct Sketch {
     entries: List<Written>,
     items: List<Item>,
-    ghost alike: { items ≡ flat_map entry_items entries },
-    ghost valid: { AllOf IsValidItem items },
 }
 
 impl Sketch {
-    fn new(alloc: Global) -> Sketch {
+    fn new(alloc: Global) -> Sketch
+        ensures { IsSketch result.entries result.items }
+    {
         Sketch {
             entries: List::new(alloc),
             items: List::new(alloc),
@@ -116,8 +114,10 @@ impl Sketch {
     }
 
     fn with(self, entry: Written, item: Item) -> Result<Sketch, Memory>
+        requires sketch { IsSketch self.entries self.items }
         requires alike { entry_items entry ≡ item ∷ [] }
         requires valid { IsValidItem item }
+        ensures { IfOk result (λ s. IsSketch s.entries s.items) }
     {
         let Sketch {
             mut entries,
@@ -129,8 +129,10 @@ impl Sketch {
     }
 
     fn register(self, name: &str, two: bool, gate: Option<&str>, byte: u32) -> Result<Sketch, Memory>
+        requires sketch { IsSketch self.entries self.items }
         requires name { IsWord name.now }
         requires byte { byte < 2 ^ 20 }
+        ensures { IfOk result (λ s. IsSketch s.entries s.items) }
     {
         let alloc = self.items.alloc();
         let entry = register(alloc, name, two, gate, byte)?;
@@ -139,13 +141,18 @@ impl Sketch {
     }
 
     /// A register of one bit.
-    fn plain(self) -> Result<Sketch, Memory> {
+    fn plain(self) -> Result<Sketch, Memory>
+        requires { IsSketch self.entries self.items }
+        ensures { IfOk result (λ s. IsSketch s.entries s.items) }
+    {
         self.register("PLAIN", false, None, 1)
     }
 
     fn window(self, items: u32, byte: u32) -> Result<Sketch, Memory>
+        requires sketch { IsSketch self.entries self.items }
         requires some { 0 < items }
         requires few { items ≤ 2 ^ 22 }
+        ensures { IfOk result (λ s. IsSketch s.entries s.items) }
     {
         let alloc = self.items.alloc();
         let entry = window(alloc, items, byte)?;
@@ -153,12 +160,18 @@ impl Sketch {
         self.with(Written::Window(entry), Item::Window(item))
     }
 
-    fn skip(self, to: u32, byte: u32) -> Result<Sketch, Memory> {
+    fn skip(self, to: u32, byte: u32) -> Result<Sketch, Memory>
+        requires { IsSketch self.entries self.items }
+        ensures { IfOk result (λ s. IsSketch s.entries s.items) }
+    {
         let at = at(byte);
         self.with(Written::SkipTo { to, at }, Item::SkipTo { to, at })
     }
 
-    fn reserve(self, words: u32, byte: u32) -> Result<Sketch, Memory> {
+    fn reserve(self, words: u32, byte: u32) -> Result<Sketch, Memory>
+        requires { IsSketch self.entries self.items }
+        ensures { IfOk result (λ s. IsSketch s.entries s.items) }
+    {
         let at = at(byte);
         self.with(
             Written::Reserved { words, at },
@@ -168,7 +181,9 @@ impl Sketch {
 
     /// The layout of a block with this interface alone, which stands at byte 100.
     #[tactic(auto, unfolding(cg_desc::specs::Items::items_of_faces))]
-    fn laid(self) -> Result<LaidBlock, DescFault> {
+    fn laid(self) -> Result<LaidBlock, DescFault>
+        requires { IsSketch self.entries self.items }
+    {
         let alloc = self.items.alloc();
         let mut faces = List::new(alloc);
         faces.push(FaceDesc {
