@@ -21,9 +21,9 @@ unbroken_forth whole skips = whole _ (BreaksOffsets.back skips)
 
 pub unbroken_within : {low end : ℕ} {item : Item} {items : List Item} → IsUnbroken low (item ∷ items) → Ends low item end → end ≤ end_limit
 unbroken_within {low} {end} whole ends = elim (cases_lt end_limit end) [
-    | inl over ↦ absurd (whole _ (BreaksOffsets.past (unbroken_forth whole) ends over))
-    | inr within ↦ within
-  ]
+  | inl over ↦ absurd (whole _ (BreaksOffsets.past (unbroken_forth whole) ends over))
+  | inr within ↦ within
+]
 
 pub unbroken_rest : {low end : ℕ} {item : Item} {items : List Item} → IsUnbroken low (item ∷ items) → Ends low item end → IsUnbroken end items
 unbroken_rest whole ends f b = whole f (BreaksOffsets.later (unbroken_forth whole) ends (unbroken_within whole ends) b)

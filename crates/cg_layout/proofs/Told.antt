@@ -49,9 +49,9 @@ tells_either t u = record {
   first = rw (t.first, u.first) (sym (first_of-append t.faults u.faults));
   sound = λ f among. elim (in_either f t.faults u.faults among) [ inl here ↦ inl (t.sound f here) | inr there ↦ inr (u.sound f there) ];
   complete = λ f broken. elim broken [
-      | inl here ↦ in_left f t.faults u.faults (t.complete f here)
-      | inr there ↦ in_right f t.faults u.faults (u.complete f there)
-    ];
+    | inl here ↦ in_left f t.faults u.faults (t.complete f here)
+    | inr there ↦ in_right f t.faults u.faults (u.complete f there)
+  ];
 }
 
 -- where nothing is told, nothing is broken
@@ -64,8 +64,12 @@ none_broken t f broken =
 -- a refusal that names what is told names the first violation
 pub refuses_first : (e : DescFault) (file : ℕ) (f : Finding) {B : Finding → Type 0} (t : TellsFirst (Some f) B) → Refuses e file t.faults
     → RefusesFirst e file B
-refuses_first (Fault fault) file f t refuses = (refuses.0, refuses.1, record {
-  violates = t.sound refuses.0 refuses.2.among;
-  least = λ n g broken. refuses.2.least n g (t.complete g broken);
-})
+refuses_first (Fault fault) file f t refuses = (
+  refuses.0,
+  refuses.1,
+  record {
+    violates = t.sound refuses.0 refuses.2.among;
+    least = λ n g broken. refuses.2.least n g (t.complete g broken);
+  },
+)
 refuses_first Memory file f t refuses = tt

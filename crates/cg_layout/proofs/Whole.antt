@@ -140,13 +140,17 @@ rows_fit : {low top end : ℕ} {items : List Item} {rows : List LaidRow} (all : 
     → low ≤ end_limit → IsUnbroken low items → AllOf IsValidItem items → HaveGates all items → RowsFit all from rows
 rows_fit all from HasRows.none above within unbroken valid gates = omega arith
 rows_fit {low} all from (HasRows.row {first} (IsSpan.register {r}) p has) above within unbroken valid gates =
-    let ends = Ends.row IsSpan.register p in
-    (omega (arith, p.reaches), register_fits all low first r p valid.0 (gates r (inl refl)),
-        rows_fit all (first + 4) has (omega arith) (unbroken_within unbroken ends) (unbroken_rest unbroken ends) valid.1 (λ s among. gates s (inr among)))
+    let ends = Ends.row IsSpan.register p in (
+      omega (arith, p.reaches),
+      register_fits all low first r p valid.0 (gates r (inl refl)),
+      rows_fit all (first + 4) has (omega arith) (unbroken_within unbroken ends) (unbroken_rest unbroken ends) valid.1 (λ s among. gates s (inr among)),
+    )
 rows_fit {low} all from (HasRows.row {span} {first} (IsSpan.window {w} n) p has) above within unbroken valid gates =
-    let ends = Ends.row (IsSpan.window n) p in
-    (omega (arith, p.reaches), (refl, window_fits low first span w n p valid.0),
-        rows_fit all (first + 4 * w.items) has (omega (arith, n.1)) (unbroken_within unbroken ends) (unbroken_rest unbroken ends) valid.1 (λ s among. gates s (inr among)))
+    let ends = Ends.row (IsSpan.window n) p in (
+      omega (arith, p.reaches),
+      (refl, window_fits low first span w n p valid.0),
+      rows_fit all (first + 4 * w.items) has (omega (arith, n.1)) (unbroken_within unbroken ends) (unbroken_rest unbroken ends) valid.1 (λ s among. gates s (inr among)),
+    )
 rows_fit {low} all from (HasRows.skip {to} has) above within unbroken valid gates =
     let ahead : low ≤ to = elim (cases_lt to low) [ inl less ↦ absurd (unbroken_forth unbroken (inr less)) | inr more ↦ more ] in
     rows_fit all from has (omega arith) (unbroken_within unbroken Ends.skip) (unbroken_rest unbroken Ends.skip) valid.1 (λ s among. gates s (inr among))
@@ -165,9 +169,9 @@ rows_there (HasRows.reserved has) = rows_there has
 face_laid : (face : FaceDesc) (items : List Item) (l : LaidFace) → IsGood face items → AllOf IsValidItem items → IsLaidOut items l → IsLaid l
 face_laid face items l good valid is = record {
   some_row = elim (rows_there is.rows) [
-      | inl row ↦ row
-      | inr none ↦ absurd (good _ (BreaksIn.no_row (row_missing items none)))
-    ];
+    | inl row ↦ row
+    | inr none ↦ absurd (good _ (BreaksIn.no_row (row_missing items none)))
+  ];
   rows = rows_fit l.rows 0 is.rows (omega arith) (omega arith) (λ f breaks. good f (BreaksIn.offsets breaks)) valid
       (λ r among. gate_fits face items good r (contains items (Reg r) among) r.regwen refl is.rows);
 }
@@ -179,9 +183,10 @@ all_laid [] [] (l ∷ laid) unbroken valid is = absurd is
 all_laid [] (i ∷ items) laid unbroken valid is = absurd is
 all_laid (f ∷ faces) [] laid unbroken valid is = absurd is
 all_laid (f ∷ faces) (i ∷ items) [] unbroken valid is = absurd is
-all_laid (f ∷ faces) (i ∷ items) (l ∷ laid) unbroken valid is =
-    (face_laid f i.items l (unbroken_first f faces i items unbroken) valid.0 is.1,
-        all_laid faces items laid (unbroken_later f faces i items unbroken) valid.1 is.2)
+all_laid (f ∷ faces) (i ∷ items) (l ∷ laid) unbroken valid is = (
+  face_laid f i.items l (unbroken_first f faces i items unbroken) valid.0 is.1,
+  all_laid faces items laid (unbroken_later f faces i items unbroken) valid.1 is.2,
+)
 
 -- the interfaces of a block that breaks no rule are whole
 pub laid_faces : (b : BlockDesc) (l : LaidBlock) → AreValid (items_of_block b) → ((f : Finding) → ¬ Violates b f) → IsLaidBlock b l → AllOf IsLaid l.faces

@@ -13,7 +13,7 @@ ghost use Rattle.cg_svspec.specs.Printable.{AllOf};
 
 use crate::faults::first_in_faces;
 use crate::items::{is_row, words_of};
-use crate::offsets::extent_of;
+use crate::offsets::{Extent, extent_of};
 use cg_base::{List, Memory, Text};
 use cg_desc::{BlockDesc, DescFault, FaceDesc, FaceItems, Item, LaidBlock, LaidFace, LaidRow};
 use cg_finding::refusal;
@@ -29,7 +29,7 @@ fn copied(name: &Option<Text>) -> Result<Option<Text>, Memory>
     }
 }
 
-/// The interface of these items, which break no rule on offsets.
+/// The interface of these items, which break no rule on offsets, under the name that its description has.
 fn laid_face(alloc: Global, face: &FaceDesc, items: List<Item>) -> Result<LaidFace, Memory>
     requires valid { AllOf IsValidItem items }
     requires unbroken { (f : Finding) → ¬ BreaksOffsets 0 items f }
@@ -39,12 +39,12 @@ fn laid_face(alloc: Global, face: &FaceDesc, items: List<Item>) -> Result<LaidFa
     let mut low = 0;
     let mut top = 0;
     for item in items.into_vec() {
-        let place = extent_of(low, &item);
-        low = place.end;
+        let Extent { first, end } = extent_of(low, &item);
+        low = end;
         if is_row(&item) {
-            top = place.end;
+            top = end;
             rows.push(LaidRow {
-                first: place.first as u32,
+                first: first as u32,
                 words: words_of(&item),
                 item,
             })?;
@@ -58,7 +58,11 @@ fn laid_face(alloc: Global, face: &FaceDesc, items: List<Item>) -> Result<LaidFa
 }
 
 /// The interfaces, each with its items, which break no rule on offsets.
-fn laid_faces(alloc: Global, faces: &[FaceDesc], items: List<FaceItems>) -> Result<List<LaidFace>, Memory>
+fn laid_faces(
+    alloc: Global,
+    faces: &[FaceDesc],
+    items: List<FaceItems>,
+) -> Result<List<LaidFace>, Memory>
     requires all { length items ≡ length faces.now }
     requires valid { AllOf (λ face. AllOf IsValidItem face.items) items }
     requires unbroken { (f : Finding) → ¬ OneBreaks (zip faces.now items) f }
@@ -72,7 +76,13 @@ fn laid_faces(alloc: Global, faces: &[FaceDesc], items: List<FaceItems>) -> Resu
     Ok(laid)
 }
 
-/// The block laid out.
+/// The block with its rows at their offsets.
+///
+/// `faces` has the items of each device interface of the block, in order, and each item is valid. The refusal is the
+/// first fault of phase 5 in the block's file: rule 33 is an interface without a register and a window, 35 a `regwen`
+/// that names no register of the interface, 36 one whose register is no gate, 39 a skip that leads to no word or back,
+/// and 41 an item that ends past 2^24 bytes. Of 39 and 41 only the first in an interface counts. The other refusal is
+/// want of memory, for the rows and the interfaces' names.
 pub fn lay(alloc: Global, block: BlockDesc, faces: List<FaceItems>) -> Result<LaidBlock, DescFault>
     requires expanded { faces ≡ items_of_block block }
     requires items { AllOf (λ face. AllOf IsValidItem face.items) faces }

@@ -128,7 +128,13 @@ impl Sketch {
         Ok(Sketch { entries, items })
     }
 
-    fn register(self, name: &str, two: bool, gate: Option<&str>, byte: u32) -> Result<Sketch, Memory>
+    fn register(
+        self,
+        name: &str,
+        two: bool,
+        gate: Option<&str>,
+        byte: u32,
+    ) -> Result<Sketch, Memory>
         requires sketch { IsSketch self.entries self.items }
         requires name { IsWord name.now }
         requires byte { byte < 2 ^ 20 }
@@ -212,7 +218,6 @@ impl Sketch {
     }
 }
 
-
 /// Whether the layout is refused by phase 5 of file 3 with this rule, at this byte, with this name.
 fn breaks(laid: Result<LaidBlock, DescFault>, rule: u8, byte: u32, name: &str) -> bool {
     match laid {
@@ -270,7 +275,9 @@ fn gates_store_one_bit(rt: HostRuntime) -> Result<(), Fail> {
     let bad = Sketch::new(alloc).register("PAIR", true, None, 10)?;
     let bad = bad.register("CFG", false, Some("PAIR"), 20)?;
     assert!(rt; breaks(bad.laid(), 36, 21, "PAIR"));
-    let unknown = Sketch::new(alloc).plain()?.register("CFG", false, Some("NONE"), 20)?;
+    let unknown = Sketch::new(alloc)
+        .plain()?
+        .register("CFG", false, Some("NONE"), 20)?;
     assert!(rt; breaks(unknown.laid(), 35, 21, "NONE"));
     let lock = Sketch::new(alloc).register("CFG", false, Some("lock"), 20)?;
     let lock = lock.register("LOCK", false, None, 30)?;
@@ -292,7 +299,9 @@ fn items_end_within_the_limit(rt: HostRuntime) -> Result<(), Fail> {
     let alloc = rt.alloc();
     let full = Sketch::new(alloc).window(0x40_0000, 70)?;
     assert!(rt; is_laid_at(full.laid(), &[0], 0x100_0000));
-    let past = Sketch::new(alloc).window(0x40_0000, 70)?.register("LAST", false, None, 80)?;
+    let past = Sketch::new(alloc)
+        .window(0x40_0000, 70)?
+        .register("LAST", false, None, 80)?;
     assert!(rt; breaks(past.laid(), 41, 80, "LAST"));
     let window = Sketch::new(alloc).plain()?.window(0x40_0000, 70)?;
     assert!(rt; breaks(window.laid(), 41, 70, "MEM"));
@@ -323,7 +332,11 @@ fn many_gated_registers_are_laid_out(rt: HostRuntime) -> Result<(), Fail> {
     }
     let laid = sketch.register("CONFIG_LOCK", false, None, 1)?.laid();
     let rows = laid.map_or(0, |block| {
-        block.faces.as_slice().first().map_or(0, |face| face.rows.len())
+        block
+            .faces
+            .as_slice()
+            .first()
+            .map_or(0, |face| face.rows.len())
     });
     assert_eq!(rt; rows, 2048);
     Ok(())

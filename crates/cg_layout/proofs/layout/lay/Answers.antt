@@ -30,7 +30,7 @@ first_in_faces-requires-clause-all c =
 pub returns-in-Some-clause-lays : goal.returns-in-Some-clause-lays
 returns-in-Some-clause-lays c =
     let t =
-        tells_block c.args.block c.as_slice.result.now c.as_slice-2.result.now c.as_slice.ensures (c.as_slice-2.ensures ∙ c.requires.expanded) c.in-Some.ensures in
+    tells_block c.args.block c.as_slice.result.now c.as_slice-2.result.now c.as_slice.ensures (c.as_slice-2.ensures ∙ c.requires.expanded) c.in-Some.ensures in
     refuses_first c.refusal.result c.args.block.file (seen c.in-Some.found) t (c.refusal.ensures.refuses t.faults (sym t.first))
 
 pub laid_faces-requires-clause-all : goal.laid_faces-requires-clause-all
