@@ -1,12 +1,12 @@
 -- What an interface breaks of the rules on rows and gates, as what its list has.
-use Rattle.std.proofs.Common.{◌≡◌, ℕ, Bool, true, false, ◌||◌, ◌⊎◌, List, [], ◌∷◌, inl, inr, Option, Some, None, refl, sym, ap, subst, ◌∙◌}
+use Rattle.std.proofs.Common.{◌≡◌, ℕ, Bool, true, false, ◌||◌, ◌⊎◌, List, [], ◌∷◌, inl, inr, Option, Some, None, refl, ap, ◌∙◌}
 use Rattle.std.specs.List.{Contains, flat_map}
 use Rattle.cg_desc.specs.declared.block.FaceDesc.{FaceDesc}
 use Rattle.cg_desc.specs.declared.block.RegDesc.{RegDesc}
 use Rattle.cg_desc.specs.declared.block.Item.{Item}
 use Rattle.cg_desc.specs.declared.block.Item.TheVariants.{Reg, Window, SkipTo, Reserved}
 use Rattle.cg_finding.specs.Finding.{Among, Finding, In, earlier, finding, first_of}
-use Rattle.cg_finding.proofs.Members.{FromOne, flat_map_has, in_flat_map, in_unless, unless_has}
+use Rattle.cg_finding.proofs.Members.{flat_map_has, in_flat_map, in_unless, unless_has}
 use Rattle.cg_layout.specs.Inner.Gates.{faults_of_gate, faults_of_regwen, gate_faults, has_row}
 use Rattle.cg_layout.specs.Inner.Told.{TellsFirst}
 use Rattle.cg_layout.specs.Violations.{BreaksIn, BreaksOffsets, HasNoRow, is_gate, is_row, name_or_empty, register_among}

@@ -1,10 +1,9 @@
-pub mod Lists
-pub mod Told
-pub mod Ends
-pub mod Gating
-pub mod Faces
-pub mod Laying
-pub mod Placing
+mod Lists
+mod Told
+mod Ends
+mod Gating
+mod Faces
+mod Laying
+mod Placing
 pub mod Once
 pub mod Whole
-mod Examples

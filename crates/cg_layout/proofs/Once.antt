@@ -9,7 +9,7 @@ use Rattle.cg_desc.specs.declared.block.LaidFace.{LaidFace}
 use Rattle.cg_desc.specs.declared.block.LaidBlock.{LaidBlock}
 use Rattle.cg_desc.specs.declared.block.BlockDesc.{BlockDesc}
 use Rattle.cg_desc.specs.Items.{items_of_block}
-use Rattle.cg_desc.specs.Offsets.{HasRows, IsLaidOut, IsSpan}
+use Rattle.cg_desc.specs.Offsets.{HasRows, IsLaidOut}
 use Rattle.cg_layout.specs.Lays.{AreLaidOut, IsLaidBlock}
 use Rattle.cg_layout.proofs.Ends.{first_once, power_once, span_once}
 use Rattle.cg_layout.proofs.Laying.{row_of}

@@ -1,5 +1,5 @@
 -- A block that breaks no rule is laid out whole.
-use Rattle.std.proofs.Common.{◌≡◌, ℕ, ◌+◌, ◌-◌, ◌*◌, ◌^◌, ◌<◌, ◌≤◌, Bool, true, false, not, ◌&&◌, ◌||◌, cond, List, [], ◌∷◌, ◌⊎◌, inl, inr, Option, Some, None, eqb-true, ◌==◌, refl, sym, ap, subst, ◌∙◌, arith}
+use Rattle.std.proofs.Common.{◌≡◌, ℕ, ◌+◌, ◌-◌, ◌*◌, ◌^◌, ◌<◌, ◌≤◌, Bool, true, false, not, ◌&&◌, cond, List, [], ◌∷◌, ◌⊎◌, inl, inr, Option, Some, None, eqb-true, ◌==◌, refl, sym, ap, subst, ◌∙◌, arith}
 use Rattle.std.specs.Int.{IsNextPowerOfTwo}
 use Rattle.std.specs.List.{Contains}
 use Rattle.std.proofs.lemmas.Bool.{cases_lt}
@@ -13,7 +13,7 @@ use Rattle.cg_desc.specs.declared.block.FieldDesc.{FieldDesc}
 use Rattle.cg_desc.specs.declared.block.RegDesc.{RegDesc}
 use Rattle.cg_desc.specs.declared.block.WindowDesc.{WindowDesc}
 use Rattle.cg_desc.specs.declared.block.Item.{Item}
-use Rattle.cg_desc.specs.declared.block.Item.TheVariants.{Reg, Window, SkipTo, Reserved}
+use Rattle.cg_desc.specs.declared.block.Item.TheVariants.{Reg}
 use Rattle.cg_desc.specs.declared.block.FaceDesc.{FaceDesc}
 use Rattle.cg_desc.specs.declared.block.FaceItems.{FaceItems}
 use Rattle.cg_desc.specs.declared.block.LaidRow.{LaidRow}
@@ -27,7 +27,7 @@ use Rattle.cg_desc.specs.Valid.{IsValidItem, IsValidRegister, IsValidWindow}
 use Rattle.cg_finding.specs.Finding.{Among, Finding}
 use Rattle.cg_layout.specs.Inner.Gates.{has_row}
 use Rattle.cg_layout.specs.Lays.{AreLaidOut, IsLaidBlock}
-use Rattle.cg_layout.specs.Violations.{BreaksIn, BreaksOffsets, HasNoRow, Violates, end_limit, is_gate, is_gate_field, register_among}
+use Rattle.cg_layout.specs.Violations.{BreaksIn, Violates, end_limit, is_gate, register_among}
 use Rattle.cg_layout.proofs.Ends.{power_within}
 use Rattle.cg_layout.proofs.Faces.{some_violates}
 use Rattle.cg_layout.proofs.Gating.{row_missing}
@@ -189,6 +189,6 @@ all_laid (f ∷ faces) (i ∷ items) (l ∷ laid) unbroken valid is = (
 )
 
 -- the interfaces of a block that breaks no rule are whole
-pub laid_faces : (b : BlockDesc) (l : LaidBlock) → AreValid (items_of_block b) → ((f : Finding) → ¬ Violates b f) → IsLaidBlock b l → AllOf IsLaid l.faces
+pub laid_faces : (b : BlockDesc) (l : LaidBlock) → AllOf (λ face. AllOf IsValidItem face.items) (items_of_block b) → ((f : Finding) → ¬ Violates b f) → IsLaidBlock b l → AllOf IsLaid l.faces
 laid_faces b l valid good is =
     all_laid b.faces (items_of_block b) l.faces (λ f one. good f (some_violates b f one)) valid is.interfaces

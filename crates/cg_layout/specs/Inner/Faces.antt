@@ -1,5 +1,5 @@
 -- The interfaces of a block with their items.
-use Rattle.std.specs.Prelude.{◌≡◌, List, ◌∷◌, []}
+use Rattle.std.specs.Prelude.{List}
 use Rattle.cg_desc.specs.declared.block.FaceDesc.{FaceDesc}
 use Rattle.cg_desc.specs.declared.block.FaceItems.{FaceItems}
 use Rattle.cg_finding.specs.Finding.{Finding, Among}

@@ -1,7 +1,6 @@
 -- What the gates of an interface's registers break, as a list.
 use Rattle.std.specs.Prelude.{ℕ, Bool, false, ◌||◌, cond, List, [], ◌∷◌, Option, Some, None}
 use Rattle.cg_desc.specs.declared.block.RegDesc.{RegDesc}
-use Rattle.cg_desc.specs.declared.block.WindowDesc.{WindowDesc}
 use Rattle.cg_desc.specs.declared.block.Item.{Item}
 use Rattle.cg_desc.specs.declared.block.Item.TheVariants.{Reg, Window, SkipTo, Reserved}
 use Rattle.cg_finding.specs.Finding.{Finding, finding}

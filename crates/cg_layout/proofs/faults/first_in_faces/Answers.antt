@@ -1,4 +1,4 @@
-use Rattle.std.proofs.Common.{◌≡◌, ◌<◌, length, get_or, sym, ap, ◌∙◌, arith}
+use Rattle.std.proofs.Common.{◌<◌, length, sym, ap, ◌∙◌, arith}
 use Rattle.std.specs.List.{zip}
 use Rattle.cg_layout.proofs.Faces.{goes_on_end, goes_on_more, goes_on_start}
 use Rattle.cg_layout.proofs.Lists.{zip_done, zip_front}

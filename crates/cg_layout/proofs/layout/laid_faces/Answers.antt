@@ -1,5 +1,5 @@
-use Rattle.std.proofs.Common.{◌≡◌, length, get_or, sym, ap, subst, ◌∙◌, arith}
-use Rattle.std.specs.Vec.Iter.{into_iter_items, into_iter_len}
+use Rattle.std.proofs.Common.{◌≡◌, length, get_or, sym, ap, ◌∙◌, arith}
+use Rattle.std.specs.Vec.Iter.{into_iter_items}
 use Rattle.cg_layout.proofs.Lists.{nothing_left}
 use Rattle.cg_layout.proofs.Placing.{placing_end, placing_more, placing_start, placing_unbroken}
 use Rattle.cg_layout.proofs.layout.laid_faces.Goals as goal

@@ -1,4 +1,4 @@
-use Rattle.std.proofs.Common.{◌≡◌, ◌*◌, ◌^◌, ◌≤◌, refl, subst, arith}
+use Rattle.std.proofs.Common.{◌*◌, refl, subst, arith}
 use Rattle.std.specs.Int.{IsNextPowerOfTwo}
 use Rattle.cg_desc.specs.Offsets.{IsSpan}
 use Rattle.cg_layout.specs.Inner.Extents.{Extends}
