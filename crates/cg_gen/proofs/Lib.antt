@@ -5,6 +5,8 @@ pub mod Modules
 pub mod Loops
 pub mod Commands
 pub mod Dues
-pub mod Owed
 pub mod Once
 pub mod Endings
+pub mod Kept
+pub mod Owed
+pub mod Meanings

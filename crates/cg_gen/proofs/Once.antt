@@ -17,7 +17,7 @@ use Rattle.cg_words.specs.declared.command.Command.TheVariants.{Regtool}
 use Rattle.cg_words.specs.declared.command.RegOut.TheVariants.{Registers}
 use Rattle.cg_words.proofs.ExactWords.{one_command}
 use Rattle.cg_hjson.proofs.SeenWhole.{seen_alike}
-use Rattle.cg_gen.proofs.Owed.{laid_once}
+use Rattle.cg_layout.proofs.Once.{laid_once}
 use Rattle.cg_desc.specs.declared.fault.Fault.{Fault}
 use Rattle.cg_desc.specs.declared.block.LaidBlock.{LaidBlock}
 use Rattle.cg_hjson.specs.Views.{tree_of}

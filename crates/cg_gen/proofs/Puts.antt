@@ -37,7 +37,7 @@ behind_alike [] a b = refl
 behind_alike (c ∷ front) a b = ap (λ o. ordering_then o (slice_cmp nat_cmp (front ++ a) (front ++ b))) (tied_itself nat_cmp_total c) ∙ behind_alike front a b
 
 -- the change that an output is
-abbrev stored : List ℕ → Output → Change
+abbrev pub stored : List ℕ → Output → Change
 stored dir o = record { name = stored_name dir o.name; bytes = o.bytes }
 
 tests_alike : (dir a b : List ℕ) → is_gt (slice_cmp nat_cmp (stored_name dir a) (stored_name dir b)) ≡ is_gt (slice_cmp nat_cmp a b)
@@ -62,11 +62,11 @@ puts_stored dir os [] = refl
 puts_stored dir os (p ∷ ps) = puts_stored dir (put_output p os) ps ∙ ap (λ cs. put_changes cs (changes_of dir ps)) (put_stored dir p os)
 
 -- the text of an interface's module is its output
-text_is : (dir : List ℕ) (laid : LaidBlock) (face : LaidFace) → text_change dir (module_of_face laid face) ≡ stored dir (register_output laid face)
+pub text_is : (dir : List ℕ) (laid : LaidBlock) (face : LaidFace) → text_change dir (module_of_face laid face) ≡ stored dir (register_output laid face)
 unfolding register_module
 text_is dir laid face = refl
 
-texts_are : (dir : List ℕ) (laid : LaidBlock) (faces : List LaidFace) → map (text_change dir) (map (module_of_face laid) faces) ≡ changes_of dir (map (register_output laid) faces)
+pub texts_are : (dir : List ℕ) (laid : LaidBlock) (faces : List LaidFace) → map (text_change dir) (map (module_of_face laid) faces) ≡ changes_of dir (map (register_output laid) faces)
 texts_are dir laid [] = refl
 texts_are dir laid (face ∷ faces) = (λ i. text_is dir laid face i ∷ texts_are dir laid faces i)
 

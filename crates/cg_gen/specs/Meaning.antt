@@ -1,9 +1,10 @@
 -- What the bytes that a run writes mean.
-use Rattle.std.specs.Prelude.{◌≡◌, ℕ, ◌++◌, List, [], ◌∷◌, Contains, Option, Some, None}
+use Rattle.std.specs.Prelude.{◌≡◌, ℕ, ◌++◌, List, [], ◌∷◌, Option, Some, None}
 use Rattle.std.specs.FinMap as map
 use Rattle.cg_base.specs.Outside.{Files}
 use Rattle.cg_desc.specs.declared.block.LaidBlock.{LaidBlock}
 use Rattle.cg_desc.specs.declared.block.LaidFace.{LaidFace}
+use Rattle.cg_finding.specs.Finding.{Among}
 use Rattle.cg_hjson.specs.declared.tree.Tree.{Tree}
 use Rattle.cg_svspec.specs.Stands.{Stands}
 use Rattle.cg_svspec.specs.Tree.{Module}
@@ -37,8 +38,8 @@ pub record WritesBlock (words : List (List ℕ)) (before after : Files) : Type 0
   pub tree : Tree
   pub laid : LaidBlock
   pub is_laid : IsLaidOutAs description tree laid
-  pub interfaces : (face : LaidFace) → Contains laid.faces face → HoldsMeaning command laid after face
-  pub others : (name : List ℕ) → ((face : LaidFace) → Contains laid.faces face → ¬ (name ≡ text_name command laid face))
+  pub interfaces : (face : LaidFace) → Among face laid.faces → HoldsMeaning command laid after face
+  pub others : (name : List ℕ) → ((face : LaidFace) → Among face laid.faces → ¬ (name ≡ text_name command laid face))
       → map.get after name ≡ map.get before name
 
 -- where the files are told
