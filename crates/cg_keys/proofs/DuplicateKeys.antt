@@ -73,8 +73,16 @@ own_repeat root d at before (document.member_and key place value ms) f stands am
       | inl here ↦ let when = in_when (is_key_among (keys_of before) key) f (finding 2 20 (at_of place) key) here in
           let known = has_key before key when.0 in
           record {
-            depth = d; opener = at; before = before; later = later; after = member_list ms; stands = stands;
-            earlier = known.holder; among = known.among; same = known.same; says = when.1;
+            depth = d;
+            opener = at;
+            before = before;
+            later = later;
+            after = member_list ms;
+            stands = stands;
+            earlier = known.holder;
+            among = known.among;
+            same = known.same;
+            says = when.1;
           }
       | inr behind ↦ own_repeat root d at (before ++ later ∷ []) ms f
           (subst (λ all. StandsAt (tree_of root) d (document.object_of all at)) (sym (append_assoc before (later ∷ []) (member_list ms))) stands)

@@ -27,8 +27,9 @@ passes_word (c ∷ s) word = pass_both _ (list_all is_name_character s) word.0 (
 -- the test passes exactly the names of at most so many characters
 pub is_name_tells : (most : ℕ) (s : List ℕ) → IsTrue (is_name most s) ↔ (IsName s × (length s ≤ most))
 unfolding is_name
-is_name_tells most s =
-    (λ passes. let word = both_pass (is_word s) _ passes in let rest = both_pass _ (not (is_keyword s)) word.1 in
-        ((word_passes s word.0, not-true (is_keyword s) rest.1), leb-true (length s) most rest.0),
-     λ named. pass_both (is_word s) _ (passes_word s named.0.0)
-        (pass_both _ (not (is_keyword s)) (le-leb (length s) most named.1) (ap not named.0.1)))
+is_name_tells most s = (
+  λ passes. let word = both_pass (is_word s) _ passes in let rest = both_pass _ (not (is_keyword s)) word.1 in
+      ((word_passes s word.0, not-true (is_keyword s) rest.1), leb-true (length s) most rest.0),
+  λ named. pass_both (is_word s) _ (passes_word s named.0.0)
+      (pass_both _ (not (is_keyword s)) (le-leb (length s) most named.1) (ap not named.0.1)),
+)

@@ -2,3 +2,16 @@
 
 mod faults;
 mod values;
+
+use cg_base::Memory;
+use cg_hjson::{Tree, read};
+use std::alloc::Global;
+use std::test::Fail;
+
+/// The tree of a short document.
+fn tree_of(alloc: Global, document: &str) -> Result<Tree, Fail> {
+    if document.len() > 1000 {
+        return Err(Fail::from(Memory));
+    }
+    Ok(read(alloc, document)?)
+}

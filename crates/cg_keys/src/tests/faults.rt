@@ -1,10 +1,10 @@
+use super::tree_of;
 use crate::{
     Form, Row, Words, elements, first_duplicate, first_in_each, first_in_elements, first_in_items,
     first_in_length, first_in_list, first_in_object, first_in_table, first_in_value, members,
     rule_broken,
 };
 use cg_finding::Found;
-use cg_hjson::read;
 use std::alloc::{AllocError, Global};
 use std::test::Fail;
 
@@ -68,13 +68,19 @@ fn tables_tell_the_first_fault(rt: HostRuntime) -> Result<(), Fail> {
         ("{name: \"a\", name: 1, fields: []}", "none"),
         // lists and words
         ("{name: \"a\", fields: {}}", "22 20 fields"),
-        ("{name: \"a\", fields: [], swaccess: \"rx\"}", "22 34 swaccess"),
+        (
+            "{name: \"a\", fields: [], swaccess: \"rx\"}",
+            "22 34 swaccess",
+        ),
         ("{name: \"a\", fields: [], swaccess: 1}", "22 34 swaccess"),
         // a number among the forms
         ("{name: \"a\", fields: [], resval: \"x\"}", "none"),
         ("{name: \"a\", fields: [], resval: true}", "none"),
         ("{name: \"a\", fields: [], resval: \"y\"}", "24 32 resval"),
-        ("{name: \"a\", fields: [], resval: 4294967296}", "24 32 resval"),
+        (
+            "{name: \"a\", fields: [], resval: 4294967296}",
+            "24 32 resval",
+        ),
         ("{name: \"a\", fields: [], resval: 1.5}", "24 32 resval"),
         ("{name: \"a\", fields: [], resval: null}", "22 32 resval"),
         ("{name: \"a\", fields: [], resval: []}", "22 32 resval"),
@@ -85,7 +91,7 @@ fn tables_tell_the_first_fault(rt: HostRuntime) -> Result<(), Fail> {
         // the first by place
         ("{count: \"-\", name: 1, fields: 1}", "24 8 count"),
     ] {
-        let tree = read(rt.alloc(), document)?;
+        let tree = tree_of(rt.alloc(), document)?;
         let found = first_in_table(tree.at, members(&tree), &ROWS);
         assert_eq!(rt; shown(rt.alloc(), found)?.as_str(), want, "in {document}");
         let found = first_in_object(&tree, &ROWS);
@@ -96,8 +102,9 @@ fn tables_tell_the_first_fault(rt: HostRuntime) -> Result<(), Fail> {
 
 #[test]
 fn lists_tell_their_faults(rt: HostRuntime) -> Result<(), Fail> {
-    let document = "{a: [{}, 1, 2], b: [\"s\"], c: 1, d: [{name: \"a\", fields: []}, {name: \"a\"}]}";
-    let tree = read(rt.alloc(), document)?;
+    let document =
+        "{a: [{}, 1, 2], b: [\"s\"], c: 1, d: [{name: \"a\", fields: []}, {name: \"a\"}]}";
+    let tree = tree_of(rt.alloc(), document)?;
     let members = members(&tree);
     let found = first_in_elements(members, "a");
     assert_eq!(rt; shown(rt.alloc(), found)?.as_str(), "22 4 a");
@@ -120,7 +127,7 @@ fn lists_tell_their_faults(rt: HostRuntime) -> Result<(), Fail> {
 
 #[test]
 fn values_tell_their_faults(rt: HostRuntime) -> Result<(), Fail> {
-    let tree = read(rt.alloc(), "{}")?;
+    let tree = tree_of(rt.alloc(), "{}")?;
     let found = first_in_value("key", &[Form::Object], &tree);
     assert_eq!(rt; shown(rt.alloc(), found)?.as_str(), "none");
     let found = first_in_value("key", &[Form::Text, Form::Name], &tree);
@@ -143,7 +150,7 @@ fn keys_that_stand_twice_are_found(rt: HostRuntime) -> Result<(), Fail> {
         ("{x: {y: {k: 1, k: 2}}, a: 1, a: 2}", "20 15 k"),
         ("{x: 1, x: {k: 1, k: 2}}", "20 7 x"),
     ] {
-        let tree = read(rt.alloc(), document)?;
+        let tree = tree_of(rt.alloc(), document)?;
         let found = first_duplicate(rt.alloc(), &tree)?;
         assert_eq!(rt; shown(rt.alloc(), found)?.as_str(), want, "in {document}");
     }

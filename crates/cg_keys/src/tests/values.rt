@@ -1,17 +1,18 @@
+use super::tree_of;
 use crate::{
     Form, Words, array, bool_of, boolean_at, elements, fits, fits_one, hardware_at, int, is_fit_at,
     is_name, items, members, number_at, object_at, place_at, software_at, text_at, value_at,
     window_access_at,
 };
 use cg_desc::{At, HwAccess, SwAccess};
-use cg_hjson::{Member, Tree, read};
+use cg_hjson::{Member, Tree};
 use std::alloc::Global;
 use std::test::Fail;
 
 /// The tree of an object with this value at the key `k`.
 fn with_value(alloc: Global, value: &str) -> Result<Tree, Fail> {
     let text = format!(in alloc; "{{k: {value}\n}}")?;
-    Ok(read(alloc, text.as_str())?)
+    tree_of(alloc, text.as_str())
 }
 
 fn int_at(members: &[Member], key: &str) -> Option<i128> {
@@ -29,7 +30,7 @@ fn length_at(members: &[Member], key: &str) -> Option<usize> {
 #[test]
 fn values_are_seen_by_kind(rt: HostRuntime) -> Result<(), Fail> {
     let document = "{n: 7, s: \"7\", b: true, l: [1, {}], o: {k: null}}";
-    let tree = read(rt.alloc(), document)?;
+    let tree = tree_of(rt.alloc(), document)?;
     let members = members(&tree);
     assert_eq!(rt; int_at(members, "n"), Some(7));
     assert_eq!(rt; int_at(members, "s"), None);
@@ -156,7 +157,7 @@ fn keys_have_their_words(rt: HostRuntime) -> Result<(), Fail> {
 #[test]
 fn values_stand_at_the_first_key(rt: HostRuntime) -> Result<(), Fail> {
     let document = "{a: \"r0w1c\", b: \"hwo\", c: \"ro\", a: \"wo\"}";
-    let tree = read(rt.alloc(), document)?;
+    let tree = tree_of(rt.alloc(), document)?;
     let members = members(&tree);
     assert_eq!(rt; software_at(members, "a"), Some(SwAccess::R0w1c));
     assert_eq!(rt; hardware_at(members, "b"), Some(HwAccess::Hwo));

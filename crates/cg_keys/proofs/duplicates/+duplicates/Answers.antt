@@ -1,4 +1,4 @@
-use Rattle.std.proofs.Common.{◌≡◌, [], ◌++◌, List, ap, sym, ◌∙◌}
+use Rattle.std.proofs.Common.{[], ◌++◌, List, ap, sym, ◌∙◌}
 use Rattle.std.specs.List.{flat_map}
 use Rattle.cg_docspec.specs.Tree as document
 use Rattle.cg_finding.specs.Finding.{Finding, first_of}
