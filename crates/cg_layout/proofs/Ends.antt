@@ -26,6 +26,7 @@ not_below n j k reaches least less =
     let some : 0 < 2 ^ j = pow_pos j in
     omega arith
 
+-- two that are the least are one
 same_exponent : (n j k : ℕ) → n ≤ 2 ^ j → n ≤ 2 ^ k → 2 ^ j / 2 < max 1 n → 2 ^ k / 2 < max 1 n → (j < k) ⊎ (k ≤ j) → (k < j) ⊎ (j ≤ k) → 2 ^ j ≡ 2 ^ k
 same_exponent n j k a b c d (inl less) e = absurd (not_below n j k a d less)
 same_exponent n j k a b c d (inr more) (inl less) = absurd (not_below n k j b c less)
@@ -92,18 +93,21 @@ extent_first Extends.reserved = omega arith
 
 -- ---- what the items break, at the first of them
 
+-- an item that skips back is all that is told
 back_alone : {low : ℕ} {item : Item} {items : List Item} {f : Finding} → IsSkipBack low item → BreaksOffsets low (item ∷ items) f
     → f ≡ finding 5 39 (place_of item) []
 back_alone skips (BreaksOffsets.back b) = refl
 back_alone skips (BreaksOffsets.past forth e over) = absurd (forth skips)
 back_alone skips (BreaksOffsets.later forth e within b) = absurd (forth skips)
 
+-- so is one that ends past the limit
 past_alone : {low end : ℕ} {item : Item} {items : List Item} {f : Finding} → ¬ IsSkipBack low item → Ends low item end → end_limit < end
     → BreaksOffsets low (item ∷ items) f → f ≡ finding 5 41 (place_of item) (own_name item)
 past_alone forth e over (BreaksOffsets.back b) = absurd (forth b)
 past_alone forth e over (BreaksOffsets.past also d past) = refl
 past_alone forth e over (BreaksOffsets.later also d within b) = let same = ends_once e d in absurd (omega arith)
 
+-- behind any other, what is broken is broken later
 only_later : {low end : ℕ} {item : Item} {items : List Item} {f : Finding} → ¬ IsSkipBack low item → Ends low item end → end ≤ end_limit
     → BreaksOffsets low (item ∷ items) f → BreaksOffsets end items f
 only_later forth e within (BreaksOffsets.back b) = absurd (forth b)
@@ -118,13 +122,12 @@ pub record IsReached (items : List Item) (low : ℕ) (rest : List Item) : Type 0
   pub valid : AllOf IsValidItem rest
   pub told : (told : Option Finding) → TellsFirst told (BreaksOffsets low rest) → TellsFirst told (BreaksOffsets 0 items)
 
-pub reached_start : (items : List Item) → AllOf IsValidItem items → IsReached items 0 items
-reached_start items valid = record { within = omega arith; valid = valid; told = λ told t. t }
-
+-- no item is left
 pub reached_end : {items rest : List Item} {low : ℕ} → rest ≡ [] → IsReached items low rest → TellsFirst None (BreaksOffsets 0 items)
 reached_end {items} {rest} {low} e reached =
     reached.told None (subst (λ left. TellsFirst None (BreaksOffsets low left)) (sym e) (tells_nothing (λ f b. elim b [ ])))
 
+-- one more item
 module _ {items rest more : List Item} {low : ℕ} {item : Item} (e : rest ≡ item ∷ more) (reached : IsReached items low rest) where
   pub reached_valid : IsValidItem item × AllOf IsValidItem more
   reached_valid = subst (AllOf IsValidItem) e reached.valid

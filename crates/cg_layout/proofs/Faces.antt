@@ -23,6 +23,7 @@ first_or_later : (x : Face) (xs : List Face) (f : Finding) (face : Face) → Amo
 first_or_later x xs f face (inl is) breaks = inl (subst (λ (y : Face). BreaksIn y.0 y.1.items f) is breaks)
 first_or_later x xs f face (inr later) breaks = inr (record { interface = face; among = later; breaks = breaks })
 
+-- and the other way round
 one_of_more : (x : Face) (xs : List Face) (f : Finding) → BreaksIn x.0 x.1.items f ⊎ OneBreaks xs f → OneBreaks (x ∷ xs) f
 one_of_more x xs f (inl breaks) = record { interface = x; among = inl refl; breaks = breaks }
 one_of_more x xs f (inr one) = record { interface = one.interface; among = inr one.among; breaks = one.breaks }
@@ -36,15 +37,18 @@ tells_more x xs t u = tells_as (tells_either t u) (one_of_more x xs) (λ f one. 
 abbrev pub GoesOn : List Face → Option Finding → List Face → Type 0
 GoesOn all first rest = (told : Option Finding) → TellsFirst told (OneBreaks rest) → TellsFirst (earlier first told) (OneBreaks all)
 
+-- nothing is looked at so far
 pub goes_on_start : (all : List Face) → GoesOn all None all
 goes_on_start all told t = rw (None-earlier told) t
 
+-- one more interface
 pub goes_on_more : (all rest more : List Face) (x : Face) (first now new : Option Finding) → rest ≡ x ∷ more → TellsFirst now (BreaksIn x.0 x.1.items)
     → new ≡ earlier first now → GoesOn all first rest → GoesOn all new more
 goes_on_more all rest more x first now new e t is on told u =
     let here : TellsFirst (earlier now told) (OneBreaks rest) = subst (λ (xs : List Face). TellsFirst (earlier now told) (OneBreaks xs)) (sym e) (tells_more x more t u) in
     rw (is, earlier_assoc first now told) (on (earlier now told) here)
 
+-- no interface is left
 pub goes_on_end : (all rest : List Face) (first : Option Finding) → rest ≡ [] → GoesOn all first rest → TellsFirst first (OneBreaks all)
 goes_on_end all rest first e on =
     let none : TellsFirst None (OneBreaks rest) = subst (λ (xs : List Face). TellsFirst None (OneBreaks xs)) (sym e) (tells_nothing (λ f one. absurd one.among)) in
@@ -52,6 +56,7 @@ goes_on_end all rest first e on =
 
 -- ---- a block
 
+-- what one of its interfaces breaks, the block breaks
 pub some_violates : (b : BlockDesc) (f : Finding) → OneBreaks (zip b.faces (items_of_block b)) f → Violates b f
 some_violates b f one = record {
   interface = one.interface;
@@ -59,6 +64,7 @@ some_violates b f one = record {
   breaks = one.breaks;
 }
 
+-- and the other way round
 pub violates_some : (b : BlockDesc) (f : Finding) → Violates b f → OneBreaks (zip b.faces (items_of_block b)) f
 violates_some b f violation = record {
   interface = violation.interface;
@@ -79,6 +85,7 @@ tells_block b {told} faces items e is t =
     let own : TellsFirst told (OneBreaks (zip b.faces (items_of_block b))) = rw (e, is) at t in
     tells_as own (some_violates b) (violates_some b)
 
+-- where they tell nothing, the block breaks nothing
 pub none_violates : (b : BlockDesc) (faces : List FaceDesc) (items : List FaceItems) → faces ≡ b.faces → items ≡ items_of_block b
     → TellsFirst None (OneBreaks (zip faces items)) → (f : Finding) → ¬ Violates b f
 none_violates b faces items e is t = none_broken (tells_block b faces items e is t)

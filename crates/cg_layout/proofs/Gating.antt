@@ -29,6 +29,7 @@ no_row_among (x ∷ items) item h (inr later) = no_row_among items item (no_row_
     no_row_rest false c e = e
     no_row_rest true c e = cc
 
+-- where no row is found there is none
 pub row_missing : (items : List Item) → has_row items ≡ false → HasNoRow items
 row_missing items h item has = no_row_among items item h (among items item has)
 
@@ -44,6 +45,7 @@ some_row : (items : List Item) → has_row items ≡ true → HasSomeRow items
 some_row [] h = cc
 some_row (x ∷ items) h = some_row_by x items (is_row x) refl h (λ e. some_row items e)
 
+-- where one is found there is one
 pub row_there : (items : List Item) → has_row items ≡ true → ¬ HasNoRow items
 row_there items h none =
     let found = some_row items h in
@@ -55,9 +57,11 @@ row_there items h none =
 abbrev pub IsWithoutRow : FaceDesc → List Item → Finding → Type 0
 IsWithoutRow face items f = HasNoRow items × (f ≡ finding 5 33 face.at (name_or_empty face.name))
 
+-- there is a row
 pub tells_row : (face : FaceDesc) (items : List Item) → has_row items ≡ true → TellsFirst None (IsWithoutRow face items)
 tells_row face items h = tells_nothing (λ f broken. row_there items h broken.0)
 
+-- there is none
 pub tells_no_row : (face : FaceDesc) (items : List Item) (name : List ℕ) → has_row items ≡ false → name ≡ name_or_empty face.name
     → TellsFirst (Some (finding 5 33 face.at name)) (IsWithoutRow face items)
 tells_no_row face items name h called =
@@ -75,12 +79,14 @@ gate_breaks face items r name f (Some gate) has e g among =
     let found = in_unless (is_gate gate) f (finding 5 36 r.regwen_at name) among in
     rw found.1 (BreaksIn.bad_regwen r gate has e g found.0)
 
+-- what a register breaks by the name of its gate, if it has one
 regwen_breaks : (face : FaceDesc) (items : List Item) (r : RegDesc) (f : Finding) (regwen : Option (List ℕ)) → Contains items (Reg r)
     → r.regwen ≡ regwen → In f (faults_of_regwen items r regwen) → BreaksIn face items f
 unfolding faults_of_regwen
 regwen_breaks face items r f None has e among = absurd among
 regwen_breaks face items r f (Some name) has e among = gate_breaks face items r name f (register_among items name) has e refl among
 
+-- what an item breaks
 item_breaks : (face : FaceDesc) (items : List Item) (item : Item) (f : Finding) → Contains items item → In f (gate_faults items item) → BreaksIn face items f
 unfolding gate_faults
 item_breaks face items (Reg r) f has among = regwen_breaks face items r f r.regwen has refl among
@@ -121,11 +127,13 @@ bad_listed items r gate name has e g bad =
 abbrev BreaksByCheck : FaceDesc → List Item → Finding → Type 0
 BreaksByCheck face items f = IsWithoutRow face items f ⊎ (In f (flat_map (gate_faults items) items) ⊎ BreaksOffsets 0 items f)
 
+-- what a check finds is broken
 from_checks : (face : FaceDesc) (items : List Item) (f : Finding) → BreaksByCheck face items f → BreaksIn face items f
 from_checks face items f (inl broken) = rw broken.1 (BreaksIn.no_row broken.0)
 from_checks face items f (inr (inl among)) = gates_break face items f among
 from_checks face items f (inr (inr broken)) = BreaksIn.offsets broken
 
+-- what is broken a check finds
 by_checks : (face : FaceDesc) (items : List Item) (f : Finding) → BreaksIn face items f → BreaksByCheck face items f
 by_checks face items _ (BreaksIn.no_row none) = inl (none, refl)
 by_checks face items _ (BreaksIn.unknown_regwen {name} r has e g) = inr (inl (unknown_listed items r name has e g))

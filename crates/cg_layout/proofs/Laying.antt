@@ -1,5 +1,5 @@
 -- Rows at their offsets, item by item.
-use Rattle.std.proofs.Common.{◌≡◌, ℕ, ◌≤◌, max, true, false, List, [], ◌∷◌, ◌++◌, Option, inl, inr, sym, subst, arith, append_assoc, append-nil}
+use Rattle.std.proofs.Common.{◌≡◌, ℕ, ◌≤◌, max, true, false, List, [], ◌∷◌, ◌++◌, Option, inl, inr, sym, subst, append_assoc, append-nil}
 use Rattle.std.specs.Int.{IsNextPowerOfTwo}
 use Rattle.std.proofs.lemmas.Bool.{cases_lt}
 use Rattle.cg_svspec.specs.Printable.{AllOf}
@@ -16,18 +16,22 @@ use Rattle.cg_layout.proofs.Ends.{extent_ends}
 abbrev pub IsUnbroken : ℕ → List Item → Type 0
 IsUnbroken low items = (f : Finding) → ¬ BreaksOffsets low items f
 
+-- then the first item does not skip back
 pub unbroken_forth : {low : ℕ} {item : Item} {items : List Item} → IsUnbroken low (item ∷ items) → ¬ IsSkipBack low item
 unbroken_forth whole skips = whole _ (BreaksOffsets.back skips)
 
+-- ends within the limit
 pub unbroken_within : {low end : ℕ} {item : Item} {items : List Item} → IsUnbroken low (item ∷ items) → Ends low item end → end ≤ end_limit
 unbroken_within {low} {end} whole ends = elim (cases_lt end_limit end) [
   | inl over ↦ absurd (whole _ (BreaksOffsets.past (unbroken_forth whole) ends over))
   | inr within ↦ within
 ]
 
+-- and nothing is broken behind it
 pub unbroken_rest : {low end : ℕ} {item : Item} {items : List Item} → IsUnbroken low (item ∷ items) → Ends low item end → IsUnbroken end items
 unbroken_rest whole ends f b = whole f (BreaksOffsets.later (unbroken_forth whole) ends (unbroken_within whole ends) b)
 
+-- an item at its offset
 abbrev pub row_of : ℕ → Item → LaidRow
 row_of first item = record { first = first; words = words_of item; item = item }
 
@@ -54,15 +58,7 @@ pub record IsLaying (all : List Item) (low top : ℕ) (rest : List Item) (rows :
   pub unbroken : IsUnbroken low rest
   pub whole : (more : List LaidRow) (last : ℕ) → HasRows low top rest more last → HasRows 0 0 all (rows ++ more) last
 
-pub laying_start : (items : List Item) → AllOf IsValidItem items → IsUnbroken 0 items → IsLaying items 0 0 items []
-laying_start items valid unbroken = record {
-  low_within = omega arith;
-  top_within = omega arith;
-  valid = valid;
-  unbroken = unbroken;
-  whole = λ more last has. has;
-}
-
+-- one more item
 module _ {all left rest : List Item} {low top first end : ℕ} {item : Item} {rows : List LaidRow} (e : left ≡ item ∷ rest)
     (laying : IsLaying all low top left rows) (extent : Extends low item first end) where
   here : IsLaying all low top (item ∷ rest) rows
@@ -92,6 +88,7 @@ module _ {all left rest : List Item} {low top first end : ℕ} {item : Item} {ro
     whole = λ more last has. here.whole more last (without_row extent h has);
   }
 
+-- no item is left
 pub laying_end : {all left : List Item} {low top size : ℕ} {rows : List LaidRow} {name : Option (List ℕ)} → left ≡ [] → IsLaying all low top left rows
     → IsNextPowerOfTwo (max top 4) size → IsLaidOut all (record { name = name; rows = rows; size = size })
 laying_end {all} {left} {low} {top} {size} {rows} e laying power = record {

@@ -10,6 +10,7 @@ among_at [] k x h e = absurd (omega arith)
 among_at (y ∷ ys) zero x h e = inl (sym e)
 among_at (y ∷ ys) (suc k) x h e = inr (among_at ys k x (omega arith) e)
 
+-- an item that a list has, said by recursion
 pub among : {X : Type 0} (xs : List X) (x : X) → Contains xs x → Among x xs
 among xs x has = among_at xs has.0 x has.1 has.2
 
@@ -17,6 +18,7 @@ among xs x has = among_at xs has.0 x has.1 has.2
 contains_later : {X : Type 0} (y : X) (ys : List X) (x : X) → Contains ys x → Contains (y ∷ ys) x
 contains_later y ys x has = (suc has.0, omega (arith, has.1), has.2)
 
+-- and the other way round
 pub contains : {X : Type 0} (xs : List X) (x : X) → Among x xs → Contains xs x
 contains [] x is = absurd is
 contains (y ∷ ys) x (inl is) = (0, omega arith, sym is)

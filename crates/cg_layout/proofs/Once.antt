@@ -28,6 +28,7 @@ from_there : {span same first other last : ℕ} {items : List Item} {rows : List
     → HasRows (other + same) (other + same) items rows last → HasRows (first + span) (first + span) items rows last
 from_there spans firsts has = rw (spans, firsts) has
 
+-- items have their rows in one way
 rows_once : {low top end last : ℕ} {items : List Item} {rows others : List LaidRow} → HasRows low top items rows end → HasRows low top items others last
     → AreSameRows rows others end last
 rows_once HasRows.none HasRows.none = (refl, refl)
@@ -42,9 +43,11 @@ rows_once (HasRows.skip has) (HasRows.skip also) = rows_once has also
 rows_once (HasRows.reserved has) (HasRows.row s p also) = elim s [ ]
 rows_once (HasRows.reserved has) (HasRows.reserved also) = rows_once has also
 
+-- an interface by its parts
 abbrev face_of : Option (List ℕ) → List LaidRow → ℕ → LaidFace
 face_of name rows size = record { name = name; rows = rows; size = size }
 
+-- interfaces are one whose parts are
 same_face : (l m : LaidFace) → l.name ≡ m.name → l.rows ≡ m.rows → l.size ≡ m.size → l ≡ m
 same_face l m named rows size =
     ap (λ name. face_of name l.rows l.size) named ∙ ap (λ all. face_of m.name all l.size) rows ∙ ap (face_of m.name m.rows) size
@@ -56,6 +59,7 @@ face_once items l m named is also =
     same_face l m named same.0
     (power_once (max also.end 4) l.size m.size (subst (λ n. IsNextPowerOfTwo (max n 4) l.size) same.1 is.size) also.size)
 
+-- so are several
 faces_once : (faces : List FaceDesc) (items : List FaceItems) (laid others : List LaidFace) → AreLaidOut faces items laid → AreLaidOut faces items others
     → laid ≡ others
 faces_once [] [] [] [] is also = refl
@@ -68,6 +72,7 @@ faces_once (f ∷ faces) (i ∷ items) (l ∷ laid) [] is also = absurd also
 faces_once (f ∷ faces) (i ∷ items) (l ∷ laid) (m ∷ others) is also =
     rw (face_once i.items l m (is.0 ∙ sym also.0) is.1 also.1, faces_once faces items laid others is.2 also.2) refl
 
+-- a block by its parts
 abbrev block_of : BlockDesc → List LaidFace → LaidBlock
 block_of desc faces = record { desc = desc; faces = faces }
 

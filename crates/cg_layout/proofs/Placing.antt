@@ -19,9 +19,11 @@ use Rattle.cg_layout.proofs.Laying.{IsUnbroken}
 abbrev pub AreUnbroken : List FaceDesc → List FaceItems → Type 0
 AreUnbroken faces items = (f : Finding) → ¬ OneBreaks (zip faces items) f
 
+-- each item of each interface is valid
 abbrev pub AreValid : List FaceItems → Type 0
 AreValid = AllOf (λ face. AllOf IsValidItem face.items)
 
+-- nothing of the first interface, and nothing of the later ones
 module _ (face : FaceDesc) (faces : List FaceDesc) (items : FaceItems) (more : List FaceItems) (whole : AreUnbroken (face ∷ faces) (items ∷ more)) where
   pub unbroken_first : (f : Finding) → ¬ BreaksIn face items.items f
   unbroken_first f breaks = whole f (record { interface = (face, items); among = inl refl; breaks = breaks })
@@ -36,6 +38,7 @@ pub record IsPlacing (faces : List FaceDesc) (all rest : List FaceItems) (laid :
   pub unbroken : AreUnbroken (drop (length laid) faces) rest
   pub whole : (more : List LaidFace) → AreLaidOut (drop (length laid) faces) rest more → AreLaidOut faces all (laid ++ more)
 
+-- no interface is laid out so far
 pub placing_start : (faces : List FaceDesc) (items : List FaceItems) → length items ≡ length faces → AreValid items → AreUnbroken faces items
     → IsPlacing faces items items []
 placing_start faces items e valid unbroken = record {
@@ -45,6 +48,7 @@ placing_start faces items e valid unbroken = record {
   whole = λ more are. are;
 }
 
+-- one more interface
 module _ {faces : List FaceDesc} {all left rest : List FaceItems} {items : FaceItems} {laid : List LaidFace} (e : left ≡ items ∷ rest)
     (placing : IsPlacing faces all left laid) where
   pub placing_room : length laid < length faces
@@ -78,6 +82,7 @@ module _ {faces : List FaceDesc} {all left rest : List FaceItems} {items : FaceI
               rw (is_pushed, append_assoc laid (l ∷ []) more) (placing.whole (l ∷ more) here);
         }
 
+-- no interface is left
 pub placing_end : {faces : List FaceDesc} {all left : List FaceItems} {laid : List LaidFace} → left ≡ [] → IsPlacing faces all left laid → AreLaidOut faces all laid
 placing_end {faces} {all} {left} {laid} e placing =
     let count = placing.counted in

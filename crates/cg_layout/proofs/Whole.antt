@@ -42,10 +42,6 @@ both : (b c : Bool) → (b && c) ≡ true → (b ≡ true) × (c ≡ true)
 both true c e = (refl, e)
 both false c e = cc
 
-not_true : (b : Bool) → not b ≡ true → b ≡ false
-not_true false e = refl
-not_true true e = cc
-
 -- a register that is a gate by the test, by its storage and its fields
 gate_by : (g : RegDesc) (external : Bool) (fields : List FieldDesc) → is_gate (record g { hwext = external; fields = fields }) ≡ true
     → IsGate (record g { hwext = external; fields = fields })
@@ -57,6 +53,7 @@ gate_by g false (f ∷ []) e =
     (refl, (eqb-true f.msb f.lsb one.0, readable.0))
 gate_by g false (f ∷ (h ∷ fields)) e = cc
 
+-- a register that is a gate by the test is one
 gate_is_gate : (g : RegDesc) → is_gate g ≡ true → IsGate g
 gate_is_gate g e = gate_by g g.hwext g.fields e
 
@@ -89,6 +86,7 @@ module _ (face : FaceDesc) (items : List Item) (good : IsGood face items) (r : R
 
 -- ---- rows
 
+-- a register at a multiple of 4
 register_fits : (all : List LaidRow) (low first : ℕ) (r : RegDesc) → IsLeastMultiple 4 low first → IsValidRegister r → GateFits all r.regwen
     → RowFits all (row_of first (Reg r))
 register_fits all low first r p valid gate =
@@ -109,6 +107,7 @@ at_most_24 k h (inr within) = within
 four_first : (turn x : ℕ) → turn * (4 * x) ≡ 4 * (x * turn)
 four_first turn x = omega arith
 
+-- a window at a multiple of a power of two that its words fit in
 window_fits_by : (k low first : ℕ) (w : WindowDesc) → 4 * w.items ≤ 2 ^ k → 2 ^ k ≤ 2 ^ 24 → IsLeastMultiple (2 ^ k) low first → IsValidWindow w → WindowFits first w
 window_fits_by k low first w reaches within p valid =
     let some = valid.some_item in
@@ -126,6 +125,7 @@ window_fits_by k low first w reaches within p valid =
       aligned = p.multiple.1 ∙ ap (λ n. p.multiple.0 * n) e ∙ four_first p.multiple.0 (2 ^ (k - 2));
     }
 
+-- a window at a multiple of its span
 window_fits : (low first bytes : ℕ) (w : WindowDesc) → IsNextPowerOfTwo (4 * w.items) bytes → IsLeastMultiple bytes low first → IsValidWindow w → WindowFits first w
 window_fits low first bytes w n p valid =
     let within : bytes ≤ 2 ^ 24 = power_within (4 * w.items) bytes 24 n (omega (arith, valid.few_items)) in
@@ -136,6 +136,7 @@ window_fits low first bytes w n p valid =
 abbrev HaveGates : List LaidRow → List Item → Type 0
 HaveGates all items = (r : RegDesc) → Among (Reg r) items → GateFits all r.regwen
 
+-- rows from an offset on
 rows_fit : {low top end : ℕ} {items : List Item} {rows : List LaidRow} (all : List LaidRow) (from : ℕ) → HasRows low top items rows end → from ≤ low
     → low ≤ end_limit → IsUnbroken low items → AllOf IsValidItem items → HaveGates all items → RowsFit all from rows
 rows_fit all from HasRows.none above within unbroken valid gates = omega arith
@@ -166,6 +167,7 @@ rows_there (HasRows.reserved has) = rows_there has
 
 -- ---- interfaces
 
+-- an interface that breaks nothing is whole
 face_laid : (face : FaceDesc) (items : List Item) (l : LaidFace) → IsGood face items → AllOf IsValidItem items → IsLaidOut items l → IsLaid l
 face_laid face items l good valid is = record {
   some_row = elim (rows_there is.rows) [
@@ -176,6 +178,7 @@ face_laid face items l good valid is = record {
       (λ r among. gate_fits face items good r (contains items (Reg r) among) r.regwen refl is.rows);
 }
 
+-- so are several
 all_laid : (faces : List FaceDesc) (items : List FaceItems) (laid : List LaidFace) → AreUnbroken faces items → AreValid items → AreLaidOut faces items laid
     → AllOf IsLaid laid
 all_laid [] [] [] unbroken valid is = tt
