@@ -10,3 +10,4 @@ pub mod Endings
 pub mod Kept
 pub mod Owed
 pub mod Meanings
+pub mod Examples

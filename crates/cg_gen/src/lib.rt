@@ -28,3 +28,5 @@ pub use stop::Stop;
 pub use top::run;
 pub use words::RegisterTexts;
 
+#[cfg(test)]
+mod tests;

@@ -1,0 +1,6 @@
+//! Runs over memory: what is written and printed, and the status.
+
+mod blocks;
+mod faults;
+mod running;
+mod words;
