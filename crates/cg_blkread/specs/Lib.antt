@@ -3,6 +3,7 @@ pub mod Bits
 pub mod Interfaces
 pub mod Keys
 pub mod Raw
+pub mod Shared
 pub mod Values
 pub mod Described
 pub mod Reads

@@ -2,6 +2,8 @@
 #![tactic(auto)]
 
 mod bits;
+mod parameters;
 mod raw;
+mod read_fields;
 
 pub use raw::{Bits, RawEntry, RawField, RawMultireg, RawRegister, RawWindow};
