@@ -4,6 +4,7 @@
 mod bits;
 mod parameters;
 mod raw;
+mod read_entries;
 mod read_fields;
 
 pub use raw::{Bits, RawEntry, RawField, RawMultireg, RawRegister, RawWindow};
