@@ -4,6 +4,7 @@ pub mod Interfaces
 pub mod Keys
 pub mod Raw
 pub mod Shared
+pub mod Seen
 pub mod Values
 pub mod Described
 pub mod Reads

@@ -1,11 +1,11 @@
 //! The first rule on bits, reset values and counts that an entry breaks.
 
-ghost use Rattle.std.specs.Prelude.{◌≡◌, ◌+◌, ◌-◌, ◌^◌, ◌≤◌, [], IfOk, is_some, nat_le};
+ghost use Rattle.std.specs.Prelude.{◌≡◌, ◌==◌, ◌/◌, ◌%◌, ◌^◌, IfOk, false, is_some, nat_le};
 ghost use Rattle.std.specs.List.{flat_map, list_all, list_any};
 ghost use Rattle.std.specs.Option.{option_map_or};
-ghost use Rattle.cg_finding.specs.Finding.{each_after, first_of};
+ghost use Rattle.cg_finding.specs.Finding.{first_of};
 ghost use Rattle.cg_finding.specs.Found.{sees};
-ghost use Rattle.cg_blkread.specs.Values.{bad_bits, bad_count, bad_window, entry_values, has_stray_bit, holds_bit, is_count_to, is_too_wide, no_fields, overlap, register_values, stray_reset, wide_reset};
+ghost use Rattle.cg_blkread.specs.Values.{bad_bits, bad_count, bad_window, entry_values, has_stray_bit, holds_bit, is_count_to, is_too_wide, no_fields, register_values, stray_reset, wide_reset};
 
 use crate::overlaps::first_overlap;
 use crate::raw::{Bits, RawEntry, RawField, RawMultireg, RawRegister, RawWindow};
@@ -121,9 +121,130 @@ fn one_holds_bit(place: u32, fields: &[RawField]) -> bool
     fields.iter().any(|field| holds_bit(place, field.bits))
 }
 
-fn is_stray_bit(fields: &[RawField], value: u32, place: u32) -> bool
-    requires { place ≤ 31 }
-    ensures { result ≡ is_stray_bit fields.now value place }
+fn bit_is_one(value: u32, place: u32) -> bool
+    ensures { result ≡ ((value / 2 ^ place) % 2 == 1) }
 {
-    value / (1 << place) % 2 == 1 && !one_holds_bit(place, fields)
+    place < 32 && value / (1 << place) % 2 == 1
+}
+
+#[tactic(auto, unfolding(crate::specs::Values::has_stray_bit))]
+fn has_stray_bit(fields: &[RawField], value: u32) -> bool
+    ensures { result ≡ has_stray_bit fields.now value }
+{
+    (0..32).any(|place: u32| bit_is_one(value, place) && !one_holds_bit(place, fields))
+}
+
+fn has_stray_reset(register: &RawRegister) -> bool
+    ensures { result ≡ option_map_or (has_stray_bit register.now.fields) register.now.resval false }
+{
+    match register.resval {
+        Some(value) => has_stray_bit(register.fields.as_slice(), value),
+        None => false,
+    }
+}
+
+#[tactic(auto, unfolding(crate::specs::Values::stray_reset), using(cg_finding::proofs::Firsts::firsts))]
+fn stray_reset(register: &RawRegister) -> Option<Found<'_>>
+    ensures { sees result ≡ first_of (stray_reset register.now) }
+{
+    if are_good(register.fields.as_slice()) && has_stray_reset(register) {
+        Some(Found {
+            phase: 3,
+            rule: 32,
+            at: register.resval_at,
+            name: register.name.as_str(),
+        })
+    } else {
+        None
+    }
+}
+
+/// The first rule on bits and reset values that a register breaks.
+#[tactic(auto, unfolding(crate::specs::Values::register_values), using(cg_finding::proofs::Firsts::firsts))]
+fn first_in_register(alloc: Global, register: &RawRegister) -> Result<Option<Found<'_>>, Memory>
+    ensures { IfOk result (λ found. sees found ≡ first_of (register_values register.now)) }
+{
+    let name = register.name.as_str();
+    let fields = register.fields.as_slice();
+    let none = no_fields(register);
+    let bad = first_bad_bits(name, fields);
+    let shared = first_overlap(alloc, fields)?;
+    let wide = first_wide_reset(name, fields);
+    let stray = stray_reset(register);
+    Ok(earlier_of(
+        none,
+        earlier_of(bad, earlier_of(shared, earlier_of(wide, stray))),
+    ))
+}
+
+fn is_count_to(most: u32, count: Option<u32>) -> bool
+    ensures { result ≡ is_count_to most count }
+{
+    match count {
+        Some(count) => 0 < count && count <= most,
+        None => false,
+    }
+}
+
+#[tactic(auto, using(cg_finding::proofs::Firsts::firsts))]
+fn bad_count(multireg: &RawMultireg) -> Option<Found<'_>>
+    ensures { sees result ≡ first_of (bad_count multireg.now) }
+{
+    if is_count_to(4096, multireg.count) {
+        None
+    } else {
+        Some(Found {
+            phase: 3,
+            rule: 37,
+            at: multireg.count_at,
+            name: multireg.register.name.as_str(),
+        })
+    }
+}
+
+#[tactic(auto, using(cg_finding::proofs::Firsts::firsts))]
+fn bad_window(window: &RawWindow) -> Option<Found<'_>>
+    ensures { sees result ≡ first_of (bad_window window.now) }
+{
+    if is_count_to(4_194_304, window.items) {
+        None
+    } else {
+        Some(Found {
+            phase: 3,
+            rule: 40,
+            at: window.items_at,
+            name: window.name.as_str(),
+        })
+    }
+}
+
+/// The first rule on bits, reset values and counts that an entry breaks.
+#[tactic(auto, unfolding(crate::specs::Values::entry_values), using(cg_finding::proofs::Firsts::firsts))]
+fn first_in_entry(alloc: Global, entry: &RawEntry) -> Result<Option<Found<'_>>, Memory>
+    ensures { IfOk result (λ found. sees found ≡ first_of (entry_values entry.now)) }
+{
+    match entry {
+        RawEntry::Register(register) => Ok(first_in_register(alloc, register)?),
+        RawEntry::Multireg(multireg) => {
+            let register = first_in_register(alloc, &multireg.register)?;
+            Ok(earlier_of(register, bad_count(multireg)))
+        }
+        RawEntry::Window(window) => Ok(bad_window(window)),
+        RawEntry::SkipTo { .. } | RawEntry::Reserved { .. } => Ok(None),
+    }
+}
+
+/// The first rule on bits, reset values and counts that any of the entries breaks.
+#[tactic(auto, using(cg_finding::proofs::Firsts::firsts))]
+pub(crate) fn first_in_values(
+    alloc: Global,
+    entries: &[RawEntry],
+) -> Result<Option<Found<'_>>, Memory>
+    ensures { IfOk result (λ found. sees found ≡ first_of (flat_map entry_values entries.now)) }
+{
+    let mut first = None;
+    for entry in entries {
+        first = earlier_of(first, first_in_entry(alloc, entry)?);
+    }
+    Ok(first)
 }
