@@ -2,6 +2,10 @@
 #![tactic(auto)]
 
 mod bits;
+mod described_entries;
+mod described_interfaces;
+mod described_lists;
+mod interface;
 mod overlaps;
 mod parameters;
 mod raw;
