@@ -1,2 +1,4 @@
 mod FieldOrder
+mod FirstMembers
+mod Picked
 mod SeenBits

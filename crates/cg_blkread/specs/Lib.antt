@@ -1,6 +1,7 @@
 pub mod Tables
 pub mod Bits
 pub mod Interfaces
+pub mod EntryLists
 pub mod Keys
 pub mod Raw
 pub mod Shared

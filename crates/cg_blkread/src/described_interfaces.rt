@@ -4,7 +4,7 @@ ghost use Rattle.std.specs.Prelude.{◌≡◌, IfOk, filter, map, option_map};
 ghost use Rattle.std.specs.Option.{option_map_or};
 ghost use Rattle.cg_blkread.specs.Described.{entries_in, entry_list_of, face_desc, written_entry};
 ghost use Rattle.cg_blkread.specs.Interfaces.{devices, hosts, interface_name, interfaces};
-ghost use Rattle.cg_blkread.specs.Raw.{parameters, raw_entry};
+ghost use Rattle.cg_blkread.specs.Raw.{parameters as parameters_of, raw_entry};
 
 use crate::described_entries::describe_entry;
 use crate::interface::{interface_name, is_device, is_host};
@@ -65,6 +65,7 @@ fn place_of(list: Option<&Tree>, otherwise: At) -> At
     }
 }
 
+/// The description of a device interface of the block with these members and parameters.
 #[tactic(auto, unfolding(crate::specs::Described::face_desc))]
 fn describe_device(
     alloc: Global,
@@ -72,7 +73,8 @@ fn describe_device(
     block: &[Member],
     device: &Tree,
 ) -> Result<FaceDesc, Memory>
-    ensures { parameters.now ≡ parameters block.now → IfOk result (λ face. face ≡ face_desc block.now device.now) }
+    requires { parameters.now ≡ parameters_of block.now }
+    ensures { IfOk result (λ face. face ≡ face_desc block.now device.now) }
 {
     let list = entry_list_of(block, device);
     let entries = describe_entries(alloc, parameters, list)?;
@@ -82,4 +84,44 @@ fn describe_device(
         entries,
         at: place_of(list, device.at),
     })
+}
+
+/// The device interfaces of a block, with their entries.
+pub(crate) fn describe_devices(
+    alloc: Global,
+    parameters: &Parameters,
+    block: &[Member],
+) -> Result<List<FaceDesc>, Memory>
+    requires { parameters.now ≡ parameters_of block.now }
+    ensures { IfOk result (λ faces. faces ≡ map (face_desc block.now) (devices block.now)) }
+{
+    let mut faces = List::new(alloc);
+    for interface in elements(block, "bus_interfaces") {
+        if !is_device(interface) {
+            continue;
+        }
+        faces.push(describe_device(alloc, parameters, block, interface)?)?;
+    }
+    Ok(faces)
+}
+
+fn describe_host(alloc: Global, host: &Tree) -> Result<HostFace, Memory>
+    ensures { IfOk result (λ described. described ≡ record { name = interface_name host.now }) }
+{
+    let name = copy_of(alloc, interface_name(host))?;
+    Ok(HostFace { name })
+}
+
+/// The host interfaces of a block.
+pub(crate) fn describe_hosts(alloc: Global, block: &[Member]) -> Result<List<HostFace>, Memory>
+    ensures { IfOk result (λ faces. faces ≡ map (λ h. record { name = interface_name h }) (hosts block.now)) }
+{
+    let mut faces = List::new(alloc);
+    for interface in elements(block, "bus_interfaces") {
+        if !is_host(interface) {
+            continue;
+        }
+        faces.push(describe_host(alloc, interface)?)?;
+    }
+    Ok(faces)
 }

@@ -5,6 +5,7 @@ mod bits;
 mod described_entries;
 mod described_interfaces;
 mod described_lists;
+mod entry_lists;
 mod interface;
 mod overlaps;
 mod parameters;
