@@ -2,6 +2,7 @@
 #![tactic(auto)]
 
 mod bits;
+mod described;
 mod described_entries;
 mod described_interfaces;
 mod described_lists;
