@@ -2,3 +2,4 @@ mod FieldOrder
 mod FirstMembers
 mod Picked
 mod SeenBits
+pub mod Sound
