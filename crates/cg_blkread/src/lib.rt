@@ -2,11 +2,13 @@
 #![tactic(auto)]
 
 mod bits;
+mod interface;
 mod overlaps;
 mod parameters;
 mod raw;
 mod read_entries;
 mod read_fields;
+mod tables;
 mod values;
 
 pub use raw::{Bits, RawEntry, RawField, RawMultireg, RawRegister, RawWindow};
