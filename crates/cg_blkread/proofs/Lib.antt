@@ -1,1 +1,2 @@
 mod SeenBits
+mod MoreKeys

@@ -2,9 +2,11 @@
 #![tactic(auto)]
 
 mod bits;
+mod entry_keys;
 mod interface;
 mod overlaps;
 mod parameters;
+mod profile;
 mod raw;
 mod read_entries;
 mod read_fields;
