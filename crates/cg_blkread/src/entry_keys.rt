@@ -45,15 +45,12 @@ fn first_in_fields<'a>(register: &'a [Member], fields: &'a [Tree]) -> Option<Fou
     first_in_all(&FieldOf { register }, fields)
 }
 
-/// What is asked of the keys of a register, and of these keys beside them.
+/// What is asked of the keys of two tables.
 #[tactic(auto, using(cg_finding::proofs::Firsts::firsts, crate::proofs::MoreKeys::object_faults_append))]
-fn first_in_register_keys(tree: &Tree, more: &[Row]) -> Option<Found<'static>>
-    ensures { sees result ≡ first_of (object_faults (register_keys ++ map key_of more.now) tree.now) }
+fn first_in_both(tree: &Tree, rows: &[Row], more: &[Row]) -> Option<Found<'static>>
+    ensures { sees result ≡ first_of (object_faults (map key_of rows.now ++ map key_of more.now) tree.now) }
 {
-    earlier_of(
-        first_in_object(tree, register_rows()),
-        first_in_object(tree, more),
-    )
+    earlier_of(first_in_object(tree, rows), first_in_object(tree, more))
 }
 
 /// What is asked of the members of a register, and of these keys beside its own.
@@ -62,7 +59,7 @@ fn first_in_register<'a>(tree: &'a Tree, more: &[Row]) -> Option<Found<'a>>
     ensures { sees result ≡ first_of (register_faults (register_keys ++ map key_of more.now) tree.now) }
 {
     let register = members(tree);
-    let keys = first_in_register_keys(tree, more);
+    let keys = first_in_both(tree, register_rows(), more);
     let outside = register_outside(register);
     let shape = first_in_elements(register, "fields");
     let fields = first_in_fields(register, elements(register, "fields"));
@@ -142,6 +139,13 @@ impl<'r> Rule<'r, Tree> for Entry {
     }
 }
 
+#[tactic(auto, using(cg_finding::proofs::Firsts::firsts))]
+fn first_in_entries(entries: &[Tree]) -> Option<Found<'_>>
+    ensures { sees result ≡ first_of (flat_map entry_faults entries.now) }
+{
+    first_in_all(&Entry, entries)
+}
+
 /// What is asked of a list of entries: that it is a list of objects, and of each what its kind asks.
 #[tactic(auto, unfolding(crate::specs::Keys::entry_list_faults), using(cg_finding::proofs::Firsts::firsts))]
 pub(crate) fn first_in_entry_list<'a>(key: &'a str, value: &'a Tree) -> Option<Found<'a>>
@@ -149,6 +153,6 @@ pub(crate) fn first_in_entry_list<'a>(key: &'a str, value: &'a Tree) -> Option<F
 {
     let kind = first_in_value(key, &[Form::Items], value);
     let shape = first_in_list(Form::Object, key, value);
-    let entries = first_in_all(&Entry, items(value));
+    let entries = first_in_entries(items(value));
     earlier_of(kind, earlier_of(shape, entries))
 }
