@@ -1,2 +1,3 @@
 mod SeenBits
 mod MoreKeys
+mod SeenKeys

@@ -8,3 +8,4 @@ pub mod Seen
 pub mod Values
 pub mod Described
 pub mod Reads
+pub mod Views

@@ -3,6 +3,7 @@
 
 mod bits;
 mod entry_keys;
+mod entry_lists;
 mod interface;
 mod overlaps;
 mod parameters;

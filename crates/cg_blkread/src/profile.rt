@@ -20,8 +20,8 @@ use cg_desc::SwAccess;
 use cg_finding::{Found, earlier_of};
 use cg_hjson::{Member, Tree};
 use cg_keys::{
-    Form, array, boolean_at, elements, fits, is_fit_at, members, number_at, software, text, text_at,
-    value_at,
+    Form, array, boolean_at, elements, fits, is_fit_at, members, number_at, software, text,
+    text_at, value_at,
 };
 
 /// A key whose presence alone is outside the profile.

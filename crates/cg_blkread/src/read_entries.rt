@@ -58,11 +58,7 @@ fn is_compact(members: &[Member]) -> bool
 }
 
 #[tactic(auto, unfolding(crate::specs::Raw::raw_multireg))]
-fn read_multireg(
-    alloc: Global,
-    parameters: &Parameters,
-    tree: &Tree,
-) -> Result<RawMultireg, Memory>
+fn read_multireg(alloc: Global, parameters: &Parameters, tree: &Tree) -> Result<RawMultireg, Memory>
     ensures { IfOk result (λ multireg. multireg ≡ raw_multireg parameters.now tree.now) }
 {
     let members = members(tree);

@@ -126,13 +126,11 @@ const INTERRUPT: [Row; 3] = [
     },
 ];
 
-const ALERT: [Row; 1] = [
-    Row {
-        key: "name",
-        forms: &[Form::Name],
-        needed: true,
-    },
-];
+const ALERT: [Row; 1] = [Row {
+    key: "name",
+    forms: &[Form::Name],
+    needed: true,
+}];
 
 const PARAMETER: [Row; 2] = [
     Row {
@@ -277,7 +275,11 @@ const FIELD: [Row; 6] = [
     },
     Row {
         key: "resval",
-        forms: &[Form::Number(0, WORD), Form::Boolean, Form::Word(Words::Unknown)],
+        forms: &[
+            Form::Number(0, WORD),
+            Form::Boolean,
+            Form::Word(Words::Unknown),
+        ],
         needed: false,
     },
     Row {
