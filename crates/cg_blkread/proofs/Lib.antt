@@ -1,5 +1,6 @@
 mod FieldOrder
-mod FirstMembers
+mod MoreKeys
 mod Picked
 mod SeenBits
+mod SeenKeys
 pub mod Sound

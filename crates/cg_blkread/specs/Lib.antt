@@ -1,7 +1,6 @@
 pub mod Tables
 pub mod Bits
 pub mod Interfaces
-pub mod EntryLists
 pub mod Keys
 pub mod Raw
 pub mod Shared
@@ -9,3 +8,4 @@ pub mod Seen
 pub mod Values
 pub mod Described
 pub mod Reads
+pub mod Views

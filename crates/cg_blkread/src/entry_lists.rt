@@ -1,10 +1,10 @@
-//! The lists of a block's entries.
+//! The lists of entries of a block.
 
-ghost use Rattle.std.specs.Prelude.{◌≡◌, ◌++◌, IfOk, OnOk, map};
-ghost use Rattle.cg_blkread.specs.EntryLists.{list_view, member_list};
+ghost use Rattle.std.specs.Prelude.{◌≡◌, map, IfOk};
 ghost use Rattle.cg_blkread.specs.Interfaces.{entry_lists, first_members};
+ghost use Rattle.cg_blkread.specs.Views.{list_of, member_list};
 
-use cg_base::{List, Memory};
+use cg_base::Memory;
 use cg_hjson::{Member, Tree};
 use cg_keys::{object, value_at};
 use std::alloc::Global;
@@ -12,47 +12,45 @@ use std::collections::HashSet;
 
 /// A key, and the value that is to be a list of entries.
 #[derive(Clone, Copy)]
-pub(crate) struct EntryList<'a> {
+pub struct EntryList<'a> {
     pub key: &'a str,
     pub value: &'a Tree,
 }
 
-/// Appends the members as lists, each but for one whose key an earlier one has.
-fn add_members<'a>(
-    alloc: Global,
-    members: &'a [Member],
-    lists: &mut List<EntryList<'a>>,
-) -> Result<(), Memory>
-    ensures { OnOk result (map list_view lists.new ≡ map list_view lists.old ++ map member_list (first_members members.entry.now)) }
+/// Each member of `registers` as a list of entries. Where a key stands twice, its first member counts.
+pub(crate) fn lists_of(alloc: Global, members: &[Member]) -> Result<Vec<EntryList<'_>>, Memory>
+    ensures { IfOk result (λ lists. map list_of lists.items ≡ map member_list (first_members members.now)) }
 {
     let mut seen = HashSet::new(alloc);
+    let mut lists = Vec::new(alloc);
     for member in members {
-        if !seen.insert(member.key.as_str())? {
+        let key = member.key.as_str();
+        if !seen.insert(key)? {
             continue;
         }
         lists.push(EntryList {
-            key: member.key.as_str(),
+            key,
             value: &member.value,
         })?;
     }
-    Ok(())
+    Ok(lists)
 }
 
-/// The lists of entries of the block with these members: `registers` itself, or each of its members.
+/// The lists of entries: `registers` itself, or each of its members.
 #[tactic(auto, unfolding(crate::specs::Interfaces::entry_lists))]
-pub(crate) fn entry_lists(alloc: Global, block: &[Member]) -> Result<List<EntryList<'_>>, Memory>
-    ensures { IfOk result (λ lists. map list_view lists ≡ entry_lists block.now) }
+pub(crate) fn entry_lists(alloc: Global, block: &[Member]) -> Result<Vec<EntryList<'_>>, Memory>
+    ensures { IfOk result (λ lists. map list_of lists.items ≡ entry_lists block.now) }
 {
-    let mut lists = List::new(alloc);
-    let Some(registers) = value_at(block, "registers") else {
+    let mut lists = Vec::new(alloc);
+    let Some(value) = value_at(block, "registers") else {
         return Ok(lists);
     };
-    match object(registers) {
-        Some(members) => add_members(alloc, members, &mut lists)?,
-        None => lists.push(EntryList {
-            key: "registers",
-            value: registers,
-        })?,
+    if let Some(members) = object(value) {
+        return Ok(lists_of(alloc, members)?);
     }
+    lists.push(EntryList {
+        key: "registers",
+        value,
+    })?;
     Ok(lists)
 }

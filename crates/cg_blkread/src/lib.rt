@@ -6,13 +6,16 @@ mod described;
 mod described_entries;
 mod described_interfaces;
 mod described_lists;
+mod entry_keys;
 mod entry_lists;
 mod interface;
 mod overlaps;
 mod parameters;
+mod profile;
 mod raw;
 mod read_entries;
 mod read_fields;
+mod tables;
 mod values;
 
 pub use raw::{Bits, RawEntry, RawField, RawMultireg, RawRegister, RawWindow};

@@ -18,15 +18,13 @@ use std::alloc::Global;
 fn shares_bit(seen: &[Bits], bits: Bits) -> bool
     ensures { result ≡ list_any (λ b. have_common_bit b bits) seen.now }
 {
-    seen.iter()
-        .any(|earlier| earlier.lsb <= bits.msb && bits.lsb <= earlier.msb)
+    seen.iter().any(|earlier| earlier.lsb <= bits.msb && bits.lsb <= earlier.msb)
 }
 
 fn is_among(seen: &[Bits], bits: Bits) -> bool
     ensures { result ≡ list_any (λ b. are_same_bits b bits) seen.now }
 {
-    seen.iter()
-        .any(|earlier| earlier.msb == bits.msb && earlier.lsb == bits.lsb)
+    seen.iter().any(|earlier| earlier.msb == bits.msb && earlier.lsb == bits.lsb)
 }
 
 fn shares_bit_if_any(seen: &[Bits], bits: Option<Bits>) -> bool
@@ -57,9 +55,7 @@ fn overlap<'a>(seen: &[Bits], field: &'a RawField) -> Option<Found<'a>>
 
 /// Adds bits, unless they are there.
 fn add_bits(seen: &mut List<Bits>, bits: Option<Bits>) -> Result<(), Memory>
-    ensures {
-        OnOk result ((test : Bits → Bool) → list_any test seen.new ≡ (list_any test seen.old || option_map_or test bits false))
-    }
+    ensures { OnOk result ((test : Bits → Bool) → list_any test seen.new ≡ (list_any test seen.old || option_map_or test bits false)) }
 {
     let Some(bits) = bits else {
         return Ok(());
@@ -74,10 +70,7 @@ fn add_bits(seen: &mut List<Bits>, bits: Option<Bits>) -> Result<(), Memory>
 /// The first field that shares a bit with an earlier one.
 ///
 /// Equal bits are kept once, so at most 528 pairs of a field's highest and lowest bit are looked at for each field.
-pub(crate) fn first_overlap(
-    alloc: Global,
-    fields: &[RawField],
-) -> Result<Option<Found<'_>>, Memory>
+pub(crate) fn first_overlap(alloc: Global, fields: &[RawField]) -> Result<Option<Found<'_>>, Memory>
     ensures { IfOk result (λ found. sees found ≡ first_of (each_after overlap [] fields.now)) }
 {
     let mut seen = List::new(alloc);

@@ -27,10 +27,8 @@ impl<'a> Model for Parameters<'a> {
 
     ghost view = { λ p. map parameter_of p.written.now };
 
-    ghost invariant = {
-        λ p. (name : List ℕ) → unwrap_or (get_by (λ k. bytes_eq name k.now) p.numbers) None
-            ≡ parameter_number (map parameter_of p.written.now) name
-    };
+    ghost invariant = { λ p. (name : List ℕ) → unwrap_or (get_by (λ k. bytes_eq name k.now) p.numbers) None
+        ≡ parameter_number (map parameter_of p.written.now) name };
 }
 
 /// The number at a key, from 0 to 2^32 - 1.

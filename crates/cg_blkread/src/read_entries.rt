@@ -2,7 +2,7 @@
 
 ghost use Rattle.std.specs.Prelude.{◌≡◌, ◌++◌, IfOk, OnOk, flat_map, map, option_map};
 ghost use Rattle.cg_keys.specs.Values.{items_of};
-ghost use Rattle.cg_blkread.specs.EntryLists.{list_view};
+ghost use Rattle.cg_blkread.specs.Views.{list_of};
 ghost use Rattle.cg_blkread.specs.Raw.{is_compact, number_or_zero, raw_entry, raw_multireg, raw_register, raw_window};
 ghost use Rattle.cg_blkread.specs.Reads.{raw_entries};
 
@@ -62,11 +62,7 @@ fn is_compact(members: &[Member]) -> bool
 }
 
 #[tactic(auto, unfolding(crate::specs::Raw::raw_multireg))]
-fn read_multireg(
-    alloc: Global,
-    parameters: &Parameters,
-    tree: &Tree,
-) -> Result<RawMultireg, Memory>
+fn read_multireg(alloc: Global, parameters: &Parameters, tree: &Tree) -> Result<RawMultireg, Memory>
     ensures { IfOk result (λ multireg. multireg ≡ raw_multireg parameters.now tree.now) }
 {
     let members = members(tree);
@@ -161,7 +157,7 @@ fn read_lists(
     lists: &[EntryList],
 ) -> Result<List<RawEntry>, Memory>
     ensures {
-        IfOk result (λ entries. entries ≡ flat_map (λ l. map (raw_entry parameters.now) (items_of l.value)) (map list_view lists.now))
+        IfOk result (λ entries. entries ≡ flat_map (λ l. map (raw_entry parameters.now) (items_of l.value)) (map list_of lists.now))
     }
 {
     let mut entries = List::new(alloc);

@@ -96,7 +96,11 @@ fn boolean_or_number(mubi: bool, truth: Option<bool>, number: Option<u32>) -> Op
 pub(crate) fn register_reset(members: &[Member]) -> Option<u32>
     ensures { result ≡ register_reset members.now }
 {
-    boolean_or_number(false, boolean_at(members, "resval"), word_at(members, "resval"))
+    boolean_or_number(
+        false,
+        boolean_at(members, "resval"),
+        word_at(members, "resval"),
+    )
 }
 
 fn is_unknown(members: &[Member]) -> bool
@@ -115,7 +119,11 @@ fn field_reset(mubi: bool, members: &[Member]) -> Option<u32>
     if is_unknown(members) {
         Some(0)
     } else {
-        boolean_or_number(mubi, boolean_at(members, "resval"), word_at(members, "resval"))
+        boolean_or_number(
+            mubi,
+            boolean_at(members, "resval"),
+            word_at(members, "resval"),
+        )
     }
 }
 

@@ -1,5 +1,5 @@
 -- When a description, and when an item, is valid: what its maker promises and later layers rely on.
-use Rattle.std.specs.Prelude.{◌≡◌, ℕ, ◌^◌, ◌<◌, ◌≤◌, true, List, [], ◌∷◌, Option, Some, None}
+use Rattle.std.specs.Prelude.{◌≡◌, ℕ, ◌^◌, ◌<◌, ◌≤◌, true, List, [], ◌∷◌, length, Option, Some, None}
 use Rattle.cg_svspec.specs.Characters.{IsName, IsWord}
 use Rattle.cg_svspec.specs.Printable.{AllOf}
 use Rattle.cg_desc.specs.Laid.{FieldsFit, HasField, IsWindowAccess}
@@ -79,4 +79,5 @@ pub record IsValidBlock (b : BlockDesc) : Type 0 where
   pub interrupts : AllOf IsValidInterrupt b.intrs
   pub alerts : AllOf IsValidAlert b.alerts
   pub interfaces : AllOf IsValidInterface b.faces
+  pub few_interfaces : length b.faces ≤ 8
   pub interfaces_differ : InterfacesDiffer b.faces

@@ -1,4 +1,5 @@
 pub mod Views
+pub mod SeenWhole
 pub mod FirstCharacter
 pub mod OneStep
 pub mod Answers

@@ -16,6 +16,7 @@ mod comment;
 mod json_value;
 mod lines;
 mod numeral;
+mod place;
 mod plain;
 mod quoted;
 mod reader;
@@ -26,6 +27,7 @@ mod token;
 mod tree;
 
 pub use json_value::{members_are_kept, to_json};
+pub use place::{START, place_behind};
 pub use reader::{HjsonFault, read};
 pub use tree::{Kind, Member, Tree};
 

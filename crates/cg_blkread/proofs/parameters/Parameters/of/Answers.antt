@@ -69,15 +69,15 @@ puts numbers new p name n ts i t d h e is has absent updates =
 pub loop-parameter-preserved-then-contains_key : goal.loop-parameter-preserved-then-contains_key
 loop-parameter-preserved-then-contains_key c = λ name.
     passes (numbers_of c.loop-parameter.numbers) c.parameter_name-name.result.now name c.elements-written.result.now c.loop-parameter.parameter-index
-      c.parameter-item.result _ c.loop-parameter-test.true c.parameter-item.is c.parameter_name-name.ensures (sym c.contains_key.ensures ∙ c.if-contains_key.true)
+    c.parameter-item.result _ c.loop-parameter-test.true c.parameter-item.is c.parameter_name-name.ensures (sym c.contains_key.ensures ∙ c.if-contains_key.true)
     ∙ c.loop-parameter.invariant name
 
 pub loop-parameter-preserved : goal.loop-parameter-preserved
 loop-parameter-preserved c = λ name.
     puts (numbers_of c.loop-parameter.numbers) (numbers_of c.insert.new.self) c.parameter_name-name.result.now name c.parameter_default.result
-      c.elements-written.result.now c.loop-parameter.parameter-index c.parameter-item.result _ c.loop-parameter-test.true c.parameter-item.is
-      c.parameter_name-name.ensures c.parameter_default.ensures (sym c.contains_key.ensures ∙ c.if-contains_key.false)
-      (hash_map_updates_str c.parameter_name-name.result.now c.loop-parameter.numbers c.insert.new.self _ c.in_ok-insert.ensures.updates name)
+    c.elements-written.result.now c.loop-parameter.parameter-index c.parameter-item.result _ c.loop-parameter-test.true c.parameter-item.is
+    c.parameter_name-name.ensures c.parameter_default.ensures (sym c.contains_key.ensures ∙ c.if-contains_key.false)
+    (hash_map_updates_str c.parameter_name-name.result.now c.loop-parameter.numbers c.insert.new.self _ c.in_ok-insert.ensures.updates name)
     ∙ c.loop-parameter.invariant name
 
 pub invariant_of-result : goal.invariant_of-result
