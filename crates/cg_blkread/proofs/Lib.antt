@@ -1,7 +1,7 @@
 mod FieldOrder
+mod FirstBroken
 mod MoreKeys
 mod Picked
-mod Reading
 mod SeenBits
 mod SeenKeys
 pub mod Sound
