@@ -1,3 +1,4 @@
 mod SeenBits
 mod MoreKeys
 mod SeenKeys
+mod NameSets

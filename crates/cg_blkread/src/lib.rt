@@ -5,12 +5,15 @@ mod bits;
 mod entry_keys;
 mod entry_lists;
 mod interface;
+mod interfaces;
+mod keys;
 mod overlaps;
 mod parameters;
 mod profile;
 mod raw;
 mod read_entries;
 mod read_fields;
+mod shape;
 mod tables;
 mod values;
 
