@@ -1,6 +1,7 @@
 mod FieldOrder
 mod FirstBroken
 mod MoreKeys
+mod NameSets
 mod Picked
 mod SeenBits
 mod SeenKeys
