@@ -59,10 +59,10 @@ fn first_in_lists(block: &[Member]) -> Option<Found<'static>>
 fn first_in_lengths(block: &[Member]) -> Option<Found<'static>>
     ensures { sees result ≡ first_of (lengths_faults block.now) }
 {
-    let clocking = first_in_length(1, 64, "clocking", block);
-    let inputs = first_in_length(0, 64, "available_input_list", block);
-    let outputs = first_in_length(0, 64, "available_output_list", block);
-    let both = first_in_length(0, 64, "available_inout_list", block);
+    let clocking = first_in_length(1, 64, block, "clocking");
+    let inputs = first_in_length(0, 64, block, "available_input_list");
+    let outputs = first_in_length(0, 64, block, "available_output_list");
+    let both = first_in_length(0, 64, block, "available_inout_list");
     earlier_of(clocking, earlier_of(inputs, earlier_of(outputs, both)))
 }
 
