@@ -1,4 +1,8 @@
-mod SeenBits
+mod FieldOrder
+mod FirstBroken
 mod MoreKeys
-mod SeenKeys
 mod NameSets
+mod Picked
+mod SeenBits
+mod SeenKeys
+pub mod Sound

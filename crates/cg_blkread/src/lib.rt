@@ -2,6 +2,10 @@
 #![tactic(auto)]
 
 mod bits;
+mod described;
+mod described_entries;
+mod described_interfaces;
+mod described_lists;
 mod entry_keys;
 mod entry_lists;
 mod interface;

@@ -1,8 +1,12 @@
 //! Entries as they are written.
 
-ghost use Rattle.std.specs.Prelude.{◌≡◌, ◌++◌, IfOk, OnOk, map, option_map};
+ghost use Rattle.std.specs.Prelude.{◌≡◌, ◌++◌, IfOk, OnOk, flat_map, map, option_map};
+ghost use Rattle.cg_keys.specs.Values.{items_of};
+ghost use Rattle.cg_blkread.specs.Views.{list_of};
 ghost use Rattle.cg_blkread.specs.Raw.{is_compact, number_or_zero, raw_entry, raw_multireg, raw_register, raw_window};
+ghost use Rattle.cg_blkread.specs.Reads.{raw_entries};
 
+use crate::entry_lists::{EntryList, entry_lists};
 use crate::parameters::Parameters;
 use crate::raw::{RawEntry, RawMultireg, RawRegister, RawWindow};
 use crate::read_fields::{is_true, read_fields, register_reset, shared_of};
@@ -10,7 +14,7 @@ use cg_base::{List, Memory, Text};
 use cg_desc::SwAccess;
 use cg_hjson::{Member, Tree};
 use cg_keys::{
-    boolean_at, elements, members, number_within, place_at, text_at, value_at, window_access_at,
+    boolean_at, elements, items, members, number_within, place_at, text_at, value_at, window_access_at,
 };
 use std::alloc::Global;
 
@@ -132,7 +136,7 @@ pub(crate) fn read_entry(
 }
 
 /// Appends the entries of a list.
-pub(crate) fn read_entries(
+fn read_entries(
     alloc: Global,
     parameters: &Parameters,
     items: &[Tree],
@@ -144,4 +148,31 @@ pub(crate) fn read_entries(
         entries.push(read_entry(alloc, parameters, item)?)?;
     }
     Ok(())
+}
+
+/// All entries of the lists.
+fn read_lists(
+    alloc: Global,
+    parameters: &Parameters,
+    lists: &[EntryList],
+) -> Result<List<RawEntry>, Memory>
+    ensures {
+        IfOk result (λ entries. entries ≡ flat_map (λ l. map (raw_entry parameters.now) (items_of l.value)) (map list_of lists.now))
+    }
+{
+    let mut entries = List::new(alloc);
+    for list in lists {
+        read_entries(alloc, parameters, items(list.value), &mut entries)?;
+    }
+    Ok(entries)
+}
+
+/// All entries of the block with these members, in the order of their lists.
+#[tactic(auto, unfolding(crate::specs::Reads::raw_entries))]
+pub(crate) fn read_block(alloc: Global, block: &[Member]) -> Result<List<RawEntry>, Memory>
+    ensures { IfOk result (λ entries. entries ≡ raw_entries block.now) }
+{
+    let parameters = Parameters::of(alloc, block)?;
+    let lists = entry_lists(alloc, block)?;
+    Ok(read_lists(alloc, &parameters, lists.as_slice())?)
 }
