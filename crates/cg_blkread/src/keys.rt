@@ -7,7 +7,7 @@ ghost use Rattle.cg_finding.specs.Found.{sees};
 ghost use Rattle.cg_keys.specs.Table.{key_of};
 ghost use Rattle.cg_blkread.specs.Interfaces.{entry_lists, interfaces};
 ghost use Rattle.cg_blkread.specs.Keys.{entry_list_faults, key_faults, lengths_faults, lists_faults, objects_faults, protocol_outside};
-ghost use Rattle.cg_blkread.specs.Tables.{alert_keys, interrupt_keys, parameter_keys, pin_keys};
+ghost use Rattle.cg_blkread.specs.Tables.{alert_keys, clocking_keys, interface_keys, interrupt_keys, parameter_keys, pin_keys};
 ghost use Rattle.cg_blkread.specs.Views.{list_of};
 
 use crate::entry_keys::first_in_entry_list;
@@ -38,7 +38,6 @@ fn first_in_objects<'a>(block: &[Member], key: &'a str, rows: &[Row]) -> Option<
 }
 
 /// What is asked of the lists of pins.
-#[tactic(auto, using(cg_finding::proofs::Firsts::firsts))]
 fn first_in_pins(block: &[Member]) -> Option<Found<'static>>
     ensures { sees result ≡ first_of (objects_faults (codes "available_input_list") pin_keys block.now
         ++ (objects_faults (codes "available_output_list") pin_keys block.now
@@ -51,7 +50,6 @@ fn first_in_pins(block: &[Member]) -> Option<Found<'static>>
 }
 
 /// What is asked of the lists of interrupts, alerts and parameters.
-#[tactic(auto, using(cg_finding::proofs::Firsts::firsts))]
 fn first_in_signals(block: &[Member]) -> Option<Found<'static>>
     ensures { sees result ≡ first_of (objects_faults (codes "interrupt_list") interrupt_keys block.now
         ++ (objects_faults (codes "alert_list") alert_keys block.now
@@ -63,19 +61,25 @@ fn first_in_signals(block: &[Member]) -> Option<Found<'static>>
     earlier_of(interrupts, earlier_of(alerts, parameters))
 }
 
+/// What is asked of the lists of clocks and interfaces.
+fn first_in_clocks_and_interfaces(block: &[Member]) -> Option<Found<'static>>
+    ensures { sees result ≡ first_of (objects_faults (codes "clocking") clocking_keys block.now
+        ++ objects_faults (codes "bus_interfaces") interface_keys block.now) }
+{
+    let clocking = first_in_objects(block, "clocking", clocking_rows());
+    let interfaces = first_in_objects(block, "bus_interfaces", interface_rows());
+    earlier_of(clocking, interfaces)
+}
+
 /// What is asked of the lists of a block but for `registers`.
 #[tactic(auto, unfolding(crate::specs::Keys::lists_faults), using(cg_finding::proofs::Firsts::firsts))]
 fn first_in_lists(block: &[Member]) -> Option<Found<'static>>
     ensures { sees result ≡ first_of (lists_faults block.now) }
 {
-    let clocking = first_in_objects(block, "clocking", clocking_rows());
-    let interfaces = first_in_objects(block, "bus_interfaces", interface_rows());
+    let clocks_and_interfaces = first_in_clocks_and_interfaces(block);
     let signals = first_in_signals(block);
     let pins = first_in_pins(block);
-    earlier_of(
-        clocking,
-        earlier_of(interfaces, earlier_of(signals, pins)),
-    )
+    earlier_of(clocks_and_interfaces, earlier_of(signals, pins))
 }
 
 /// What is asked of the lengths of a block's lists.
