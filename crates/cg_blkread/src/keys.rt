@@ -1,12 +1,13 @@
 //! The first rule on keys, kinds and the profile that a block breaks.
 
-ghost use Rattle.std.specs.Prelude.{◌≡◌, IfOk, map};
+ghost use Rattle.std.specs.Prelude.{◌≡◌, ◌++◌, IfOk, codes, map};
 ghost use Rattle.std.specs.List.{flat_map};
 ghost use Rattle.cg_finding.specs.Finding.{first_of};
 ghost use Rattle.cg_finding.specs.Found.{sees};
 ghost use Rattle.cg_keys.specs.Table.{key_of};
 ghost use Rattle.cg_blkread.specs.Interfaces.{entry_lists, interfaces};
 ghost use Rattle.cg_blkread.specs.Keys.{entry_list_faults, key_faults, lengths_faults, lists_faults, objects_faults, protocol_outside};
+ghost use Rattle.cg_blkread.specs.Tables.{alert_keys, clocking_keys, interface_keys, interrupt_keys, parameter_keys, pin_keys};
 ghost use Rattle.cg_blkread.specs.Views.{list_of};
 
 use crate::entry_keys::first_in_entry_list;
@@ -36,22 +37,49 @@ fn first_in_objects<'a>(block: &[Member], key: &'a str, rows: &[Row]) -> Option<
     )
 }
 
+/// What is asked of the lists of pins.
+fn first_in_pins(block: &[Member]) -> Option<Found<'static>>
+    ensures { sees result ≡ first_of (objects_faults (codes "available_input_list") pin_keys block.now
+        ++ (objects_faults (codes "available_output_list") pin_keys block.now
+        ++ objects_faults (codes "available_inout_list") pin_keys block.now)) }
+{
+    let inputs = first_in_objects(block, "available_input_list", pin_rows());
+    let outputs = first_in_objects(block, "available_output_list", pin_rows());
+    let both = first_in_objects(block, "available_inout_list", pin_rows());
+    earlier_of(inputs, earlier_of(outputs, both))
+}
+
+/// What is asked of the lists of interrupts, alerts and parameters.
+fn first_in_signals(block: &[Member]) -> Option<Found<'static>>
+    ensures { sees result ≡ first_of (objects_faults (codes "interrupt_list") interrupt_keys block.now
+        ++ (objects_faults (codes "alert_list") alert_keys block.now
+        ++ objects_faults (codes "param_list") parameter_keys block.now)) }
+{
+    let interrupts = first_in_objects(block, "interrupt_list", interrupt_rows());
+    let alerts = first_in_objects(block, "alert_list", alert_rows());
+    let parameters = first_in_objects(block, "param_list", parameter_rows());
+    earlier_of(interrupts, earlier_of(alerts, parameters))
+}
+
+/// What is asked of the lists of clocks and interfaces.
+fn first_in_clocks_and_interfaces(block: &[Member]) -> Option<Found<'static>>
+    ensures { sees result ≡ first_of (objects_faults (codes "clocking") clocking_keys block.now
+        ++ objects_faults (codes "bus_interfaces") interface_keys block.now) }
+{
+    let clocking = first_in_objects(block, "clocking", clocking_rows());
+    let interfaces = first_in_objects(block, "bus_interfaces", interface_rows());
+    earlier_of(clocking, interfaces)
+}
+
 /// What is asked of the lists of a block but for `registers`.
 #[tactic(auto, unfolding(crate::specs::Keys::lists_faults), using(cg_finding::proofs::Firsts::firsts))]
 fn first_in_lists(block: &[Member]) -> Option<Found<'static>>
     ensures { sees result ≡ first_of (lists_faults block.now) }
 {
-    let clocking = first_in_objects(block, "clocking", clocking_rows());
-    let interfaces = first_in_objects(block, "bus_interfaces", interface_rows());
-    let interrupts = first_in_objects(block, "interrupt_list", interrupt_rows());
-    let alerts = first_in_objects(block, "alert_list", alert_rows());
-    let parameters = first_in_objects(block, "param_list", parameter_rows());
-    let inputs = first_in_objects(block, "available_input_list", pin_rows());
-    let outputs = first_in_objects(block, "available_output_list", pin_rows());
-    let both = first_in_objects(block, "available_inout_list", pin_rows());
-    let pins = earlier_of(inputs, earlier_of(outputs, both));
-    let signals = earlier_of(interrupts, earlier_of(alerts, earlier_of(parameters, pins)));
-    earlier_of(clocking, earlier_of(interfaces, signals))
+    let clocks_and_interfaces = first_in_clocks_and_interfaces(block);
+    let signals = first_in_signals(block);
+    let pins = first_in_pins(block);
+    earlier_of(clocks_and_interfaces, earlier_of(signals, pins))
 }
 
 /// What is asked of the lengths of a block's lists.
@@ -59,10 +87,10 @@ fn first_in_lists(block: &[Member]) -> Option<Found<'static>>
 fn first_in_lengths(block: &[Member]) -> Option<Found<'static>>
     ensures { sees result ≡ first_of (lengths_faults block.now) }
 {
-    let clocking = first_in_length(1, 64, "clocking", block);
-    let inputs = first_in_length(0, 64, "available_input_list", block);
-    let outputs = first_in_length(0, 64, "available_output_list", block);
-    let both = first_in_length(0, 64, "available_inout_list", block);
+    let clocking = first_in_length(1, 64, block, "clocking");
+    let inputs = first_in_length(0, 64, block, "available_input_list");
+    let outputs = first_in_length(0, 64, block, "available_output_list");
+    let both = first_in_length(0, 64, block, "available_inout_list");
     earlier_of(clocking, earlier_of(inputs, earlier_of(outputs, both)))
 }
 
