@@ -1,3 +1,4 @@
+pub mod Block
 pub mod Empty
 pub mod Entries
 pub mod EntryNames
