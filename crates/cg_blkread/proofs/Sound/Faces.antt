@@ -77,6 +77,7 @@ are_good ms there fit all = by (value_at (codes "bus_interfaces") ms) there fit 
   by_list : (o : Option (List Tree)) → (is_some o || false) ≡ true → list_all is_good_interface (or_empty o) ≡ true → option_map_or (list_all is_good_interface) o false ≡ true
   by_list None fit all = cc
   by_list (Some ts) fit all = all
+
   by : (o : Option Tree) → is_some o ≡ true → option_map_or (fits_one (Items ∷ [])) o true ≡ true → list_all is_good_interface (items_in o) ≡ true
       → option_map_or (λ t. option_map_or (list_all is_good_interface) (array_in t) false) o false ≡ true
   by None there fit all = cc
@@ -122,9 +123,10 @@ all_differ : (ms : List Member) (ts : List Tree) → has_same_names ts ≡ false
 unfolding has_same_names face_desc
 all_differ ms [] h = tt
 all_differ ms (t ∷ ts) h =
-    let same : Bool = list_any (λ u. same_name (interface_name t) (interface_name u)) ts in
-    (apart ms t ts (none_passes (λ u. same_name (interface_name t) (interface_name u)) ts (or_false_left same (has_same_names ts) h)),
-     all_differ ms ts (or_false_right same (has_same_names ts) h))
+    let same : Bool = list_any (λ u. same_name (interface_name t) (interface_name u)) ts in (
+      apart ms t ts (none_passes (λ u. same_name (interface_name t) (interface_name u)) ts (or_false_left same (has_same_names ts) h)),
+      all_differ ms ts (or_false_right same (has_same_names ts) h),
+    )
 
 pub names_apart : (ms : List Member) → is_some (value_at (codes "bus_interfaces") ms) ≡ true → equal_names ms ≡ [] → InterfacesDiffer (map (face_desc ms) (devices ms))
 unfolding equal_names
