@@ -1,8 +1,8 @@
-ghost use Rattle.std.specs.Prelude.{◌≡◌};
+ghost use Rattle.std.specs.Prelude.{◌≡◌, List, Some};
 ghost use Rattle.std.specs.Ordering.{is_gt};
-ghost use Rattle.cg_finding.specs.Finding.{earlier, finding_cmp};
+ghost use Rattle.cg_finding.specs.Finding.{Finding, earlier, finding_cmp, first_of};
 ghost use Rattle.cg_finding.specs.Found.{seen, sees};
-ghost use Rattle.cg_finding.specs.Refusal.{Names};
+ghost use Rattle.cg_finding.specs.Refusal.{Names, Refuses};
 
 use cg_base::Text;
 use cg_desc::{At, DescFault, Fault};
@@ -54,7 +54,8 @@ pub fn earlier_of<'a>(first: Option<Found<'a>>, second: Option<Found<'a>>) -> Op
 
 /// The refusal of the file of this number by a found fault, which copies its name.
 pub fn refusal(alloc: Global, found: Found, file: u32) -> DescFault
-    ensures { Names result file (seen found.entry) }
+    ensures names { Names result file (seen found.entry) }
+    ensures refuses { (fs : List Finding) → first_of fs ≡ Some (seen found.entry) → Refuses result file fs }
 {
     match Text::of(alloc, found.name) {
         Ok(name) => DescFault::Fault(Fault {

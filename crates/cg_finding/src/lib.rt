@@ -2,5 +2,7 @@
 #![tactic(auto)]
 
 mod found;
+mod rule;
 
 pub use found::{Found, earlier_of, refusal};
+pub use rule::{Rule, first_in_all};

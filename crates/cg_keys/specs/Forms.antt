@@ -12,8 +12,8 @@ use Rattle.cg_hjson.specs.declared.tree.Tree.{Tree}
 use Rattle.cg_keys.specs.Values.{object_in, array_in, text_in, int_in, bool_in}
 use Rattle.cg_keys.specs.declared.forms.Form.{Form}
 use Rattle.cg_keys.specs.declared.forms.Form.TheVariants as form
-use Rattle.cg_keys.specs.declared.forms.Words.{Words}
-use Rattle.cg_keys.specs.declared.forms.Words.TheVariants as words
+use Rattle.cg_keys.specs.declared.words.Words.{Words}
+use Rattle.cg_keys.specs.declared.words.Words.TheVariants as words
 use Rattle.cg_svspec.specs.Characters.{is_first, is_name_character, is_keyword}
 
 -- an integer from 0 on

@@ -1,0 +1,11 @@
+use Rattle.std.proofs.Common.{◌≡◌, drop}
+use Rattle.std.specs.List.{flat_map}
+use Rattle.cg_finding.specs.Finding.{earlier, first_of}
+use Rattle.cg_finding.specs.Found.{sees}
+use Rattle.cg_finding.proofs.rule.first_in_all.Given as goal
+
+-- what was found and what the items that are left break have the first of all
+abbrev pub invariant-loop-item : goal.invariant-loop-item
+invariant-loop-item g l =
+    earlier (sees l.first) (first_of (flat_map (g.R.Rule.faults l.rule) (drop l.item-index l.items)))
+    ≡ first_of (flat_map (g.R.Rule.faults l.rule) l.items)
