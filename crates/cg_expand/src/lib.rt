@@ -1,2 +1,5 @@
-//! x
+//! The items that a block's interfaces stand for: automatic registers, and copies of registers.
 #![tactic(auto)]
+
+mod labels;
+mod names;

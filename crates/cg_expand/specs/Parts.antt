@@ -1,0 +1,3 @@
+-- What the parts of an expansion find and count.
+pub mod Labels
+pub mod Names
