@@ -1,2 +1,4 @@
 pub mod Bools
 pub mod KnownNames
+pub mod Multiregs
+pub mod Ranges

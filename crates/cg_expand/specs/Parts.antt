@@ -1,3 +1,4 @@
 -- What the parts of an expansion find and count.
 pub mod Labels
 pub mod Names
+pub mod Copies

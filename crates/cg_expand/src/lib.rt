@@ -1,5 +1,6 @@
 //! The items that a block's interfaces stand for: automatic registers, and copies of registers.
 #![tactic(auto)]
 
+mod copies;
 mod labels;
 mod names;
