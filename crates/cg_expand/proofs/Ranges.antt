@@ -1,5 +1,5 @@
 -- Lists made over the numbers from 0 on.
-use Rattle.std.proofs.Common.{ℕ, ◌≡◌, ◌+◌, zero, suc, List, [], ◌∷◌, ◌++◌, refl, sym, ap, ◌∙◌, add-one, add-zero, append-nil, arith}
+use Rattle.std.proofs.Common.{ℕ, ◌≡◌, ◌+◌, zero, suc, List, [], ◌∷◌, ◌++◌, refl, sym, ap, ◌∙◌, add-one, add-zero, append-nil, append_assoc, arith}
 use Rattle.std.specs.List.{flat_map, range_with_len}
 use Rattle.std.proofs.lemmas.Grind.{flat_map-append}
 
@@ -16,3 +16,8 @@ over_more f n =
     let last : 0 + n ≡ n = omega arith in
     rw add-one
     (ap (flat_map f) (range_more 0 n) ∙ flat_map-append f (range_with_len 0 n) ((0 + n) ∷ []) ∙ ap (λ xs. flat_map f (range_with_len 0 n) ++ xs) (append-nil (f (0 + n)) ∙ ap f last))
+
+-- three items, put at the end one after another
+pub three_more : {X : Type 0} (xs one two all : List X) (a b c : X)
+    → one ≡ xs ++ a ∷ [] → two ≡ one ++ b ∷ [] → all ≡ two ++ c ∷ [] → all ≡ xs ++ (a ∷ b ∷ c ∷ [])
+three_more xs one two all a b c p q r = rw (r, q, p) (simp append_assoc)

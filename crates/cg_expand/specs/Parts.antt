@@ -2,3 +2,4 @@
 pub mod Labels
 pub mod Names
 pub mod Copies
+pub mod Automatic

@@ -1,6 +1,7 @@
 //! The items that a block's interfaces stand for: automatic registers, and copies of registers.
 #![tactic(auto)]
 
+mod automatic;
 mod copies;
 mod labels;
 mod names;
