@@ -3,5 +3,6 @@
 
 mod automatic;
 mod copies;
+mod entries;
 mod labels;
 mod names;
