@@ -3,3 +3,4 @@ pub mod Labels
 pub mod Names
 pub mod Copies
 pub mod Automatic
+pub mod Sizes

@@ -6,3 +6,4 @@ mod copies;
 mod entries;
 mod labels;
 mod names;
+mod sizes;
