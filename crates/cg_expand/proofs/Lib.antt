@@ -1,4 +1,6 @@
+pub mod AutomaticCounts
 pub mod Bools
+pub mod Counts
 pub mod FewFields
 pub mod KnownNames
 pub mod Multiregs

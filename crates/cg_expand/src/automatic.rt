@@ -1,8 +1,8 @@
 //! The registers that come of themselves: three for the interrupts, and one for the alerts.
 
-ghost use Rattle.std.specs.Prelude.{◌≡◌, ◌+◌, ◌-◌, ◌<◌, ◌≤◌, ◌++◌, [], ◌∷◌, true, cond, length, sum_by, codes, IfOk, OnOk};
+ghost use Rattle.std.specs.Prelude.{◌≡◌, ◌+◌, ◌-◌, ◌<◌, ◌≤◌, ◌++◌, [], ◌∷◌, true, cond, ◌&&◌, length, sum_by, codes, IfOk, OnOk};
 ghost use Rattle.cg_svspec.specs.Printable.{AllOf};
-ghost use Rattle.cg_desc.specs.Items.{alert_fields, automatic_field, automatic_register, interrupt_fields};
+ghost use Rattle.cg_desc.specs.Items.{alert_fields, automatic_field, automatic_register, has_some, interrupt_fields};
 ghost use Rattle.cg_desc.specs.Valid.{IsValidInterrupt};
 ghost use Rattle.cg_desc.specs.declared.block.Item.TheVariants.{Reg as OfRegister};
 ghost use Rattle.cg_expand.specs.Parts.Automatic.{alert_registers, automatic_with, hardware_of, interrupt_register, interrupt_registers, is_external, software_of};
@@ -190,6 +190,20 @@ fn add_alert_registers(
     Ok(())
 }
 
+/// Whether a block has registers of its interrupts.
+pub fn has_interrupt_registers(block: &BlockDesc) -> bool
+    ensures { result ≡ (block.now.auto_intr && has_some block.now.intrs) }
+{
+    block.auto_intr && !block.intrs.is_empty()
+}
+
+/// Whether a block has a register of its alerts.
+pub fn has_alert_register(block: &BlockDesc) -> bool
+    ensures { result ≡ (block.now.auto_alert && has_some block.now.alerts) }
+{
+    block.auto_alert && !block.alerts.is_empty()
+}
+
 /// The automatic registers of a block, with their fields where they are wanted.
 #[tactic(auto, unfolding(crate::specs::Parts::Automatic::automatic_with))]
 pub fn automatic_items(alloc: Global, wanted: bool, block: &BlockDesc) -> Result<List<Item>, Memory>
@@ -199,10 +213,10 @@ pub fn automatic_items(alloc: Global, wanted: bool, block: &BlockDesc) -> Result
     ensures { IfOk result (λ items. items ≡ automatic_with wanted block.now) }
 {
     let mut items = List::new(alloc);
-    if block.auto_intr && !block.intrs.is_empty() {
+    if has_interrupt_registers(block) {
         add_interrupt_registers(alloc, &mut items, wanted, block)?;
     }
-    if block.auto_alert && !block.alerts.is_empty() {
+    if has_alert_register(block) {
         add_alert_registers(alloc, &mut items, wanted, block)?;
     }
     Ok(items)

@@ -1,12 +1,13 @@
 //! How many rows and fields a block has, counted without making them.
 
-ghost use Rattle.std.specs.Prelude.{◌≡◌, ◌+◌, ◌*◌, ◌<◌, nat_lt, ◌||◌, min, length, sum_by};
+ghost use Rattle.std.specs.Prelude.{◌≡◌, ◌+◌, ◌*◌, ◌<◌, nat_lt, ◌||◌, cond, min, length, sum_by};
 ghost use Rattle.cg_svspec.specs.Printable.{AllOf};
 ghost use Rattle.cg_desc.specs.Items.{automatic_items, items_of_block};
 ghost use Rattle.cg_desc.specs.Valid.{IsValidEntry, IsValidInterface};
 ghost use Rattle.cg_expand.specs.Violations.{fields_in, rows_in};
 ghost use Rattle.cg_expand.specs.Parts.Sizes.{capped, entry_fields, entry_rows, face_fields, face_rows, is_too_large};
 
+use crate::automatic::{has_alert_register, has_interrupt_registers};
 use crate::copies::word_count;
 use cg_desc::{BlockDesc, FaceDesc, IntrDesc, Written};
 
@@ -93,11 +94,14 @@ fn faces_size(faces: &[FaceDesc]) -> Size
     size
 }
 
-/// So many registers of so many fields each.
-fn automatic_size(rows: u32, fields: usize) -> Size
+/// So many registers of so many fields each, if they are there.
+fn size_if(present: bool, rows: u32, fields: usize) -> Size
     requires { rows < 4 }
-    ensures { result ≡ capped rows (rows * fields) }
+    ensures { result ≡ capped (cond present rows 0) (cond present (rows * fields) 0) }
 {
+    if !present {
+        return Size::NONE;
+    }
     let each = fields.min(MOST_FIELDS as usize + 1) as u32;
     Size {
         rows,
@@ -106,19 +110,11 @@ fn automatic_size(rows: u32, fields: usize) -> Size
 }
 
 /// The automatic registers.
-fn automatic_items_size(block: &BlockDesc) -> Size
+fn automatic_size(block: &BlockDesc) -> Size
     ensures { result ≡ capped (sum_by rows_in (automatic_items block.now)) (sum_by fields_in (automatic_items block.now)) }
 {
-    let interrupts = if block.auto_intr && !block.intrs.is_empty() {
-        automatic_size(3, block.intrs.len())
-    } else {
-        Size::NONE
-    };
-    let alerts = if block.auto_alert && !block.alerts.is_empty() {
-        automatic_size(1, block.alerts.len())
-    } else {
-        Size::NONE
-    };
+    let interrupts = size_if(has_interrupt_registers(block), 3, block.intrs.len());
+    let alerts = size_if(has_alert_register(block), 1, block.alerts.len());
     interrupts.plus(alerts)
 }
 
@@ -130,7 +126,7 @@ pub fn is_too_large(block: &BlockDesc) -> bool
     if block.faces.is_empty() {
         return false;
     }
-    automatic_items_size(block)
+    automatic_size(block)
         .plus(faces_size(block.faces.as_slice()))
         .is_too_large()
 }
