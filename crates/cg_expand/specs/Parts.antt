@@ -4,3 +4,4 @@ pub mod Names
 pub mod Copies
 pub mod Automatic
 pub mod Sizes
+pub mod Faults

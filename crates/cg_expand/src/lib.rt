@@ -3,7 +3,9 @@
 
 mod automatic;
 mod copies;
+mod early;
 mod entries;
 mod labels;
+mod late;
 mod names;
 mod sizes;

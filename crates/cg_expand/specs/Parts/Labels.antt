@@ -2,6 +2,7 @@
 use Rattle.std.specs.Prelude.{ℕ, nat_lt, Bool, ◌&&◌, cond, List, [], ◌∷◌}
 use Rattle.std.specs.List.{flat_map, list_any}
 use Rattle.std.specs.Str.{str_eq_ignore_ascii_case}
+use Rattle.cg_desc.specs.declared.place.At.{At}
 use Rattle.cg_desc.specs.declared.block.FieldDesc.{FieldDesc}
 use Rattle.cg_desc.specs.declared.block.IntrDesc.{IntrDesc}
 use Rattle.cg_desc.specs.declared.block.AlertDesc.{AlertDesc}
@@ -26,6 +27,10 @@ alert_label a = record { name = a.name; at = a.at }
 -- the other stands earlier in the file and has the same name, without regard to case
 abbrev pub is_earlier : Named → Named → Bool
 is_earlier l other = nat_lt other.at.byte l.at.byte && str_eq_ignore_ascii_case other.name l.name
+
+-- it stands behind a place
+abbrev pub is_behind : At → Named → Bool
+is_behind at l = nat_lt at.byte l.at.byte
 
 -- what a label breaks among these
 unfoldable pub twice_among : List Named → Named → List Finding
