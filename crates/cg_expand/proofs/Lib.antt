@@ -2,7 +2,11 @@ pub mod AutomaticCounts
 pub mod Bools
 pub mod Counts
 pub mod FewFields
+pub mod FieldNames
+pub mod ItemNames
 pub mod KnownNames
 pub mod Later
+pub mod Membership
 pub mod Multiregs
+pub mod PlainFaults
 pub mod Ranges
