@@ -1,4 +1,5 @@
 pub mod AutomaticCounts
+pub mod AutomaticItems
 pub mod Bools
 pub mod Counts
 pub mod FewFields
