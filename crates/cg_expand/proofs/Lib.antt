@@ -1,7 +1,9 @@
+pub mod AllFaults
 pub mod AutomaticCounts
 pub mod AutomaticItems
 pub mod Bools
 pub mod Counts
+pub mod Faces
 pub mod FewFields
 pub mod FieldNames
 pub mod ItemNames

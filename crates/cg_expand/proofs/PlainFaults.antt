@@ -17,7 +17,7 @@ use Rattle.cg_expand.proofs.ItemNames.{names_have, names_only}
 use Rattle.cg_expand.proofs.Membership.{among_of, contains_of}
 
 -- what the counts of a block break
-pub counts_faults : BlockDesc → List Finding
+unfoldable pub counts_faults : BlockDesc → List Finding
 counts_faults b = bits_faults (nat_lt 32 (interrupt_bits b)) b.intrs_at ++ (bits_faults (nat_lt 32 (length b.alerts)) b.alerts_at ++ size_faults b)
 
 -- what the items of a block break

@@ -1,7 +1,8 @@
-//! The items that a block's interfaces stand for: automatic registers, and copies of registers.
+//! The items that a block's device interfaces stand for: automatic registers, and copies of registers.
 #![tactic(auto)]
 
 mod automatic;
+mod block;
 mod copies;
 mod early;
 mod entries;
@@ -9,3 +10,5 @@ mod labels;
 mod late;
 mod names;
 mod sizes;
+
+pub use block::expand;
