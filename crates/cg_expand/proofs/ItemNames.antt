@@ -54,10 +54,10 @@ unfolding known_twice
 named_has known None n f is h says = cc
 named_has known (Some m) n f is h says = let same : n ≡ m = cc in subst (λ (k : Named). In f (known_twice known k)) same (when_has (known n.name) f (finding 4 34 n.at n.name) h says)
 
-pub in_names : (known : List ℕ → Bool) (items : List Item) (f : Finding) → In f (names_twice known items) → KnownTwice known items f
+pub in_known_names : (known : List ℕ → Bool) (items : List Item) (f : Finding) → In f (names_twice known items) → KnownTwice known items f
 unfolding names_twice
-in_names known [] f among = absurd among
-in_names known (i ∷ is) f among =
+in_known_names known [] f among = absurd among
+in_known_names known (i ∷ is) f among =
     elim (in_either f (item_twice known i) (names_twice (also i known) is) among) [
       | inl here ↦ let one = in_item known i f here in record {
           before = [];
@@ -69,7 +69,7 @@ in_names known (i ∷ is) f among =
           twice = or_false (known one.name.name) ∙ one.twice;
           says = one.says;
         }
-      | inr there ↦ let rest = in_names (also i known) is f there in record {
+      | inr there ↦ let rest = in_known_names (also i known) is f there in record {
           before = i ∷ rest.before;
           item = rest.item;
           after = rest.after;
@@ -98,7 +98,7 @@ names_have items f twice =
 
 pub names_only : (items : List Item) (f : Finding) → In f (names_twice none_known items) → ItemNameTwice items f
 names_only items f among =
-    let known = in_names none_known items f among in
+    let known = in_known_names none_known items f among in
     record {
       before = known.before;
       item = known.item;

@@ -42,7 +42,7 @@ stays_first f (g ∷ gs) later =
     ∙ stays_first f gs (λ h among. later h (inr among))
 
 -- each of these passes the test
-passes : {X : Type 0} (test : X → Bool) (xs : List X) (x : X) → list_all test xs ≡ true → Among x xs → test x ≡ true
+pub passes : {X : Type 0} (test : X → Bool) (xs : List X) (x : X) → list_all test xs ≡ true → Among x xs → test x ≡ true
 passes test [] x all among = absurd among
 passes test (y ∷ ys) x all (inl is) = ap test is ∙ (and_parts (test y) (list_all test ys) all).0
 passes test (y ∷ ys) x all (inr among) = passes test ys x (and_parts (test y) (list_all test ys) all).1 among

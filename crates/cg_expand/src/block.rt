@@ -47,8 +47,9 @@ pub fn expand(alloc: Global, block: &BlockDesc) -> Result<List<FaceItems>, DescF
     ensures expands { Expands result block.now }
     ensures valid { IfOk result (λ faces. AllOf HasValidItems faces) }
 {
-    let early = first_early(block);
-    if let Some(found) = early && is_too_large(block) && all_behind(block) {
+    let too_large = is_too_large(block);
+    let early = first_early(block, too_large);
+    if let Some(found) = early && too_large && all_behind(block) {
         return Err(refusal(alloc, found, block.file));
     }
     let faces = made_items(alloc, block)?;

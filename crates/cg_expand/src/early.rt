@@ -2,15 +2,15 @@
 
 ghost use Rattle.std.specs.Prelude.{◌≡◌, ◌++◌, map};
 ghost use Rattle.std.specs.List.{list_all};
-ghost use Rattle.cg_svspec.specs.Printable.{AllOf};
-ghost use Rattle.cg_desc.specs.Valid.{IsValidInterface};
+ghost use Rattle.cg_desc.specs.Items.{items_of_block};
 ghost use Rattle.cg_finding.specs.Finding.{first_of};
 ghost use Rattle.cg_finding.specs.Found.{sees};
 ghost use Rattle.cg_expand.specs.Parts.Labels.{is_behind, labels_twice};
 ghost use Rattle.cg_expand.specs.Parts.Faults.{alert_faults, all_behind, bits_faults, early_faults, entry_behind, interrupt_faults, list_faults, register_behind, size_faults};
+ghost use Rattle.cg_expand.specs.Parts.Sizes.{is_too_large};
 
 use crate::labels::{Labelled, first_repeat};
-use crate::sizes::{MOST_BITS, has_many_bits, is_too_large};
+use crate::sizes::{MOST_BITS, has_many_bits};
 use cg_desc::{At, BlockDesc, FieldDesc, RegDesc, Written};
 use cg_finding::{Found, earlier_of};
 
@@ -92,11 +92,11 @@ fn first_in_alerts(block: &BlockDesc) -> Option<Found<'_>>
 
 /// Rule 38, where a block is too large.
 #[tactic(auto, unfolding(crate::specs::Parts::Faults::size_faults), using(cg_finding::proofs::Firsts::firsts))]
-fn first_in_size(block: &BlockDesc) -> Option<Found<'_>>
-    requires { AllOf IsValidInterface block.now.faces }
+fn first_in_size(block: &BlockDesc, too_large: bool) -> Option<Found<'_>>
+    requires { too_large ≡ is_too_large (items_of_block block.now) }
     ensures { sees result ≡ first_of (size_faults block.now) }
 {
-    if is_too_large(block) {
+    if too_large {
         Some(Found {
             phase: 4,
             rule: 38,
@@ -109,14 +109,16 @@ fn first_in_size(block: &BlockDesc) -> Option<Found<'_>>
 }
 
 /// The first that a block breaks by its counts, and by the names of its interrupts and alerts.
+///
+/// `too_large` tells whether it has too many rows or fields.
 #[tactic(auto, unfolding(crate::specs::Parts::Faults::early_faults), using(cg_finding::proofs::Firsts::firsts))]
-pub fn first_early(block: &BlockDesc) -> Option<Found<'_>>
-    requires { AllOf IsValidInterface block.now.faces }
+pub fn first_early(block: &BlockDesc, too_large: bool) -> Option<Found<'_>>
+    requires { too_large ≡ is_too_large (items_of_block block.now) }
     ensures { sees result ≡ first_of (early_faults block.now) }
 {
     earlier_of(
         first_in_interrupts(block),
-        earlier_of(first_in_alerts(block), first_in_size(block)),
+        earlier_of(first_in_alerts(block), first_in_size(block, too_large)),
     )
 }
 
