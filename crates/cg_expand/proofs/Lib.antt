@@ -16,3 +16,4 @@ pub mod Multiregs
 pub mod Places
 pub mod PlainFaults
 pub mod Ranges
+pub mod ValidCopies

@@ -83,7 +83,7 @@ alone_placed fs shift fit none = record {
   lsb = λ i d lt. let within = field_within 0 fs i d fit lt in omega (arith, within.below, within.ordered);
 }
 
-placed_by : (compact : Bool) (fs : List FieldDesc) (place : ℕ) → FieldsFit 0 fs → (compact ≡ true → HasOneField fs) → place < cond compact (32 / copy_bits fs) 1
+pub placed_by : (compact : Bool) (fs : List FieldDesc) (place : ℕ) → FieldsFit 0 fs → (compact ≡ true → HasOneField fs) → place < cond compact (32 / copy_bits fs) 1
     → Placed fs (copy_bits fs * place)
 placed_by true fs place fit sole h = sole_placed fs place fit (sole refl) h
 placed_by false fs place fit sole h = let first : place ≡ 0 = omega arith in alone_placed fs (copy_bits fs * place) fit (ap (λ n. copy_bits fs * n) first ∙ mul-zero (copy_bits fs))
