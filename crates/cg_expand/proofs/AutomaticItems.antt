@@ -26,7 +26,7 @@ use Rattle.cg_expand.proofs.KnownNames.{same_known}
 
 -- ---- with all fields
 
-with_fields : (b : BlockDesc) → automatic_with true b ≡ automatic_items b
+pub with_fields : (b : BlockDesc) → automatic_with true b ≡ automatic_items b
 unfolding automatic_with interrupt_registers alert_registers
 with_fields b = refl
 

@@ -16,4 +16,6 @@ pub mod Multiregs
 pub mod Places
 pub mod PlainFaults
 pub mod Ranges
+pub mod Rooms
 pub mod ValidCopies
+pub mod ValidItems
