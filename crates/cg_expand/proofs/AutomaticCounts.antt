@@ -62,7 +62,7 @@ automatic_rows b =
 
 pub automatic_fields : (b : BlockDesc)
     → sum_by fields_in (automatic_items b)
-      ≡ cond (b.auto_intr && has_some b.intrs) (3 * length b.intrs) 0 + cond (b.auto_alert && has_some b.alerts) (1 * length b.alerts) 0
+    ≡ cond (b.auto_intr && has_some b.intrs) (3 * length b.intrs) 0 + cond (b.auto_alert && has_some b.alerts) (1 * length b.alerts) 0
 automatic_fields b =
     sum_over_two fields_in (b.auto_intr && has_some b.intrs) (b.auto_alert && has_some b.alerts) (interrupt_registers b) (alert_registers b)
     ∙ (λ i. cond (b.auto_intr && has_some b.intrs) (interrupt_register_fields b i) 0 + cond (b.auto_alert && has_some b.alerts) (alert_register_fields b i) 0)
@@ -81,7 +81,7 @@ past n most = grind (arith, nat_tests)
 -- a block's size, by what stands in its first interface
 pub size_of_faces : (front : List Item) (fs : List FaceDesc) → AllOf IsValidInterface fs → has_some fs ≡ true
     → (nat_lt 2048 (min (sum_by rows_in front + sum_by face_rows fs) 2049) || nat_lt 4096 (min (sum_by fields_in front + sum_by face_fields fs) 4097))
-      ≡ is_too_large (items_of_faces front fs)
+    ≡ is_too_large (items_of_faces front fs)
 unfolding row_count field_count
 size_of_faces front [] valid some = cc
 size_of_faces front (f ∷ fs) valid some = λ i.

@@ -181,7 +181,7 @@ interrupt_found b f wanted among =
     let there : p ≡ true = and_from b.auto_intr (has_some b.intrs) wanted (some_interrupt b.intrs f among) in
     subst (In f) (sym (automatic_are b))
     (in_left f (cond p (interrupt_names b ++ (interrupt_names b ++ (interrupt_names b ++ []))) []) (cond q (alert_names b ++ []) [])
-      (cond_has p f _ there (in_left f (interrupt_names b) (interrupt_names b ++ (interrupt_names b ++ [])) among)))
+    (cond_has p f _ there (in_left f (interrupt_names b) (interrupt_names b ++ (interrupt_names b ++ [])) among)))
 
 pub alert_found : (b : BlockDesc) (f : Finding) → b.auto_alert ≡ true → In f (alert_names b) → In f (flat_map fields_twice (automatic_items b))
 alert_found b f wanted among =
@@ -190,4 +190,4 @@ alert_found b f wanted among =
     let there : q ≡ true = and_from b.auto_alert (has_some b.alerts) wanted (some_alert b.alerts f among) in
     subst (In f) (sym (automatic_are b))
     (in_right f (cond p (interrupt_names b ++ (interrupt_names b ++ (interrupt_names b ++ []))) []) (cond q (alert_names b ++ []) [])
-      (cond_has q f _ there (in_left f (alert_names b) [] among)))
+    (cond_has q f _ there (in_left f (alert_names b) [] among)))

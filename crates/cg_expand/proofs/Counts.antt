@@ -41,7 +41,7 @@ copies_length m number a (suc n) =
     let rest : length (flat_map (λ place. copy_fields m (number place) place) (range_with_len (a + 1) n)) ≡ n * length m.reg.fields = copies_length m number (a + 1) n in
     let first : length (copy_fields m (number a) a) ≡ length m.reg.fields = length-map m.reg.fields _ in
     let both : length (flat_map (λ place. copy_fields m (number place) place) (range_with_len a (suc n)))
-      ≡ length (copy_fields m (number a) a) + length (flat_map (λ place. copy_fields m (number place) place) (range_with_len (a + 1) n)) =
+    ≡ length (copy_fields m (number a) a) + length (flat_map (λ place. copy_fields m (number place) place) (range_with_len (a + 1) n)) =
     length-append (copy_fields m (number a) a) (flat_map (λ place. copy_fields m (number place) place) (range_with_len (a + 1) n)) in
     omega (arith, suc-mul n (length m.reg.fields))
 
@@ -113,13 +113,13 @@ entries_are_fields (e ∷ es) valid =
 -- the rows of an interface with these in front, and of the others
 rows_step : (front : List Item) (f : FaceDesc) (fs : List FaceDesc)
     → sum_by (λ face. sum_by rows_in face.items) (items_of_faces front (f ∷ fs))
-      ≡ sum_by rows_in front + (face_rows f + sum_by (λ face. sum_by rows_in face.items) (items_of_faces [] fs))
+    ≡ sum_by rows_in front + (face_rows f + sum_by (λ face. sum_by rows_in face.items) (items_of_faces [] fs))
 unfolding items_of_faces
 rows_step front f fs =
     let own : sum_by rows_in (front ++ flat_map entry_items f.entries) ≡ sum_by rows_in front + face_rows f =
     sum_by-append rows_in front (flat_map entry_items f.entries) ∙ ap (λ n. sum_by rows_in front + n) (entries_are_rows f.entries) in
     let all : sum_by (λ face. sum_by rows_in face.items) (items_of_faces front (f ∷ fs))
-      ≡ sum_by rows_in (front ++ flat_map entry_items f.entries) + sum_by (λ face. sum_by rows_in face.items) (items_of_faces [] fs) =
+    ≡ sum_by rows_in (front ++ flat_map entry_items f.entries) + sum_by (λ face. sum_by rows_in face.items) (items_of_faces [] fs) =
     sum_by-cons (λ (face : FaceItems). sum_by rows_in face.items) (record { items = front ++ flat_map entry_items f.entries }) (items_of_faces [] fs) in
     omega arith
 
@@ -136,13 +136,13 @@ rows_of_faces front f fs = omega (arith, rows_step front f fs, rows_behind fs, s
 -- their fields
 fields_step : (front : List Item) (f : FaceDesc) (fs : List FaceDesc) → IsValidInterface f
     → sum_by (λ face. sum_by fields_in face.items) (items_of_faces front (f ∷ fs))
-      ≡ sum_by fields_in front + (face_fields f + sum_by (λ face. sum_by fields_in face.items) (items_of_faces [] fs))
+    ≡ sum_by fields_in front + (face_fields f + sum_by (λ face. sum_by fields_in face.items) (items_of_faces [] fs))
 unfolding items_of_faces
 fields_step front f fs valid =
     let own : sum_by fields_in (front ++ flat_map entry_items f.entries) ≡ sum_by fields_in front + face_fields f =
     sum_by-append fields_in front (flat_map entry_items f.entries) ∙ ap (λ n. sum_by fields_in front + n) (entries_are_fields f.entries valid.entries) in
     let all : sum_by (λ face. sum_by fields_in face.items) (items_of_faces front (f ∷ fs))
-      ≡ sum_by fields_in (front ++ flat_map entry_items f.entries) + sum_by (λ face. sum_by fields_in face.items) (items_of_faces [] fs) =
+    ≡ sum_by fields_in (front ++ flat_map entry_items f.entries) + sum_by (λ face. sum_by fields_in face.items) (items_of_faces [] fs) =
     sum_by-cons (λ (face : FaceItems). sum_by fields_in face.items) (record { items = front ++ flat_map entry_items f.entries }) (items_of_faces [] fs) in
     omega arith
 

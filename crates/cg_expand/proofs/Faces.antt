@@ -45,7 +45,7 @@ unfolding items_of_faces
 field_stands front d ds f among =
     in_left f (names_twice none_known (front ++ own_items d) ++ flat_map fields_twice (front ++ own_items d)) (faces_faults [] ds)
     (in_right f (names_twice none_known (front ++ own_items d)) (flat_map fields_twice (front ++ own_items d))
-      (subst (In f) (sym (flat_map-append fields_twice front (own_items d))) among))
+    (subst (In f) (sym (flat_map-append fields_twice front (own_items d))) among))
 
 pub stands_there : (front : List Item) (d : FaceDesc) (ds : List FaceDesc) (f : Finding) → Stands front d ds f → In f (faces_faults front (d ∷ ds))
 unfolding items_of_faces

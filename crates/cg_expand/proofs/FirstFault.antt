@@ -54,7 +54,7 @@ first_early b f large behind is =
     let early : (file : ℕ) (g : Finding) → In g (early_faults b) → ¬ Before (in_file file g) (in_file file f) = first.least in
     let later : (file : ℕ) (g : Finding) → FoundBehind b.at g → ¬ Before (in_file file g) (in_file file f) =
     λ file g there before. early file size (too_large_found b large)
-      (before_transitive (in_file file size) (in_file file g) (in_file file f) (before_behind file size g refl there) before) in
+    (before_transitive (in_file file size) (in_file file g) (in_file file f) (before_behind file size g refl there) before) in
     record {
       violates = found_violates b f (in_left f (early_faults b) (late_faults b) first.among);
       least = λ file g violates. elim (violates_plain b g violates) [

@@ -60,25 +60,25 @@ in_known_names known [] f among = absurd among
 in_known_names known (i ∷ is) f among =
     elim (in_either f (item_twice known i) (names_twice (also i known) is) among) [
       | inl here ↦ let one = in_item known i f here in record {
-          before = [];
-          item = i;
-          after = is;
-          stands = refl;
-          name = one.name;
-          is_name = one.is_name;
-          twice = or_false (known one.name.name) ∙ one.twice;
-          says = one.says;
-        }
+        before = [];
+        item = i;
+        after = is;
+        stands = refl;
+        name = one.name;
+        is_name = one.is_name;
+        twice = or_false (known one.name.name) ∙ one.twice;
+        says = one.says;
+      }
       | inr there ↦ let rest = in_known_names (also i known) is f there in record {
-          before = i ∷ rest.before;
-          item = rest.item;
-          after = rest.after;
-          stands = ap (λ xs. i ∷ xs) rest.stands;
-          name = rest.name;
-          is_name = rest.is_name;
-          twice = sym (or_turned (has_name rest.name.name i) (known rest.name.name) (list_any (has_name rest.name.name) rest.before)) ∙ rest.twice;
-          says = rest.says;
-        }
+        before = i ∷ rest.before;
+        item = rest.item;
+        after = rest.after;
+        stands = ap (λ xs. i ∷ xs) rest.stands;
+        name = rest.name;
+        is_name = rest.is_name;
+        twice = sym (or_turned (has_name rest.name.name i) (known rest.name.name) (list_any (has_name rest.name.name) rest.before)) ∙ rest.twice;
+        says = rest.says;
+      }
     ]
 
 names_have_at : (known : List ℕ → Bool) (before : List Item) (item : Item) (after : List Item) (n : Named) (f : Finding) → name_of item ≡ Some n

@@ -26,7 +26,7 @@ not_after : (f g : Finding) → IsLater f g → is_gt (finding_cmp f g) ≡ fals
 unfolding finding_cmp
 not_after f g later =
     λ i. is_gt (ordering_then (sym (nat_cmp_is f.phase g.phase Equal later.phase) i)
-      (ordering_then (sym (nat_cmp_is f.at.byte g.at.byte Less later.place) i) (ordering_then (nat_cmp f.rule g.rule) (slice_cmp nat_cmp f.name g.name))))
+    (ordering_then (sym (nat_cmp_is f.at.byte g.at.byte Less later.place) i) (ordering_then (nat_cmp f.rule g.rule) (slice_cmp nat_cmp f.name g.name))))
 
 stays_before_one : (f g : Finding) → IsLater f g → earlier (Some f) (Some g) ≡ Some f
 unfolding earlier

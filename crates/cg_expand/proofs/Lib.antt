@@ -2,7 +2,6 @@ pub mod AllFaults
 pub mod AutomaticCounts
 pub mod AutomaticItems
 pub mod Behind
-pub mod Bools
 pub mod Counts
 pub mod Faces
 pub mod FewFields

@@ -77,7 +77,7 @@ word_behind at m j behind =
     let place : at.byte < m.reg.at.byte = reg.name (record { name = m.reg.name; at = m.reg.at }) refl in
     named_behind at (Reg (multireg_word m j)) (record { name = (multireg_word m j).name; at = m.reg.at }) refl place
     (λ f among. let one = from_list (λ k. copy_fields m (j * copies_per_word m + k) k) (range_with_len 0 (copies_in_word m j)) f among in
-      copy_place m (j * copies_per_word m + one.source) one.source at f reg.fields one.there)
+    copy_place m (j * copies_per_word m + one.source) one.source at f reg.fields one.there)
 
 -- what an entry stands for stands behind a place where the entry does
 entry_is_behind : (at : At) (e : Written) (item : Item) → entry_behind at e ≡ true → Among item (entry_items e) → IsBehind at item

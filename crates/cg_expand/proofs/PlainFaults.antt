@@ -94,12 +94,12 @@ violates_plain b f (field_name_twice face there twice) =
 violates_plain b _ (too_many h) =
     let f : Finding = finding 4 38 b.at [] in
     inl (in_right f (bits_faults (nat_lt 32 (interrupt_bits b)) b.intrs_at) (bits_faults (nat_lt 32 (length b.alerts)) b.alerts_at ++ size_faults b)
-      (in_right f (bits_faults (nat_lt 32 (length b.alerts)) b.alerts_at) (size_faults b) (size_has b h)))
+    (in_right f (bits_faults (nat_lt 32 (length b.alerts)) b.alerts_at) (size_faults b) (size_has b h)))
 violates_plain b _ (interrupts h) =
     let f : Finding = finding 4 42 b.intrs_at [] in
     inl (in_left f (bits_faults (nat_lt 32 (interrupt_bits b)) b.intrs_at) (bits_faults (nat_lt 32 (length b.alerts)) b.alerts_at ++ size_faults b)
-      (bits_have (interrupt_bits b) b.intrs_at h))
+    (bits_have (interrupt_bits b) b.intrs_at h))
 violates_plain b _ (alerts h) =
     let f : Finding = finding 4 42 b.alerts_at [] in
     inl (in_right f (bits_faults (nat_lt 32 (interrupt_bits b)) b.intrs_at) (bits_faults (nat_lt 32 (length b.alerts)) b.alerts_at ++ size_faults b)
-      (in_left f (bits_faults (nat_lt 32 (length b.alerts)) b.alerts_at) (size_faults b) (bits_have (length b.alerts) b.alerts_at h)))
+    (in_left f (bits_faults (nat_lt 32 (length b.alerts)) b.alerts_at) (size_faults b) (bits_have (length b.alerts) b.alerts_at h)))

@@ -48,13 +48,14 @@ moved_fit number shift from low [] fit below tops = tt
 moved_fit number shift from low (f ∷ fs) fit below tops =
     let ordered : from ≤ f.lsb = fit.1 in
     let bits : f.lsb ≤ f.msb = fit.2 in
-    let width : suc f.msb - f.lsb ≡ suc (f.msb + shift) - (f.lsb + shift) = omega arith in
-    (word_numbered f.name number fit.0,
+    let width : suc f.msb - f.lsb ≡ suc (f.msb + shift) - (f.lsb + shift) = omega arith in (
+      word_numbered f.name number fit.0,
       omega arith,
       omega arith,
       tops.0,
       value_fits f.resval (suc f.msb - f.lsb) (suc (f.msb + shift) - (f.lsb + shift)) width fit.4,
-      moved_fit number shift (suc f.msb) (suc (f.msb + shift)) fs fit.5 (omega arith) tops.1)
+      moved_fit number shift (suc f.msb) (suc (f.msb + shift)) fs fit.5 (omega arith) tops.1,
+    )
 
 all_by_place : (P : FieldDesc → Type 0) (fs : List FieldDesc) → ((i : ℕ) (d : FieldDesc) → i < length fs → P (get_or fs i d)) → AllOf P fs
 all_by_place P [] each = tt
@@ -73,13 +74,14 @@ sole_fit f number a (suc n) fit tops =
     let shift : ℕ = (f.msb + 1) * a in
     let width : suc f.msb - f.lsb ≡ suc (f.msb + shift) - (f.lsb + shift) = omega arith in
     let next : (f.msb + 1) * (a + 1) ≡ suc (f.msb + shift) = omega arith in
-    let rest : FieldsFit ((f.msb + 1) * (a + 1)) (copies (f ∷ []) number (a + 1) n) = sole_fit f number (a + 1) n fit (λ k lt. tops k (omega arith)) in
-    (word_numbered f.name (number a) fit.0,
+    let rest : FieldsFit ((f.msb + 1) * (a + 1)) (copies (f ∷ []) number (a + 1) n) = sole_fit f number (a + 1) n fit (λ k lt. tops k (omega arith)) in (
+      word_numbered f.name (number a) fit.0,
       omega arith,
       omega arith,
       tops a (omega arith),
       value_fits f.resval (suc f.msb - f.lsb) (suc (f.msb + shift) - (f.lsb + shift)) width fit.4,
-      subst (λ from. FieldsFit from (copies (f ∷ []) number (a + 1) n)) next rest)
+      subst (λ from. FieldsFit from (copies (f ∷ []) number (a + 1) n)) next rest,
+    )
 
 -- the fields of a word fit, and there is one
 record AreFields (fs : List FieldDesc) : Type 0 where

@@ -40,25 +40,27 @@ interrupts_fit sw hw lsb [] valid room = tt
 interrupts_fit sw hw lsb (i ∷ is) valid room =
     let bits : sum_by (λ j. j.width) (i ∷ is) ≡ i.width + sum_by (λ j. j.width) is = sum_by-cons (λ (j : IntrDesc). j.width) i is in
     let some : 0 < i.width = valid.0.some_bit in
-    let next : lsb + i.width ≡ suc (lsb + i.width - 1) = omega arith in
-    (valid.0.name,
+    let next : lsb + i.width ≡ suc (lsb + i.width - 1) = omega arith in (
+      valid.0.name,
       omega arith,
       omega arith,
       omega arith,
       pow_pos (suc (lsb + i.width - 1) - lsb),
-      subst (λ from. FieldsFit from (interrupt_fields sw hw (lsb + i.width) is)) next (interrupts_fit sw hw (lsb + i.width) is valid.1 (omega arith)))
+      subst (λ from. FieldsFit from (interrupt_fields sw hw (lsb + i.width) is)) next (interrupts_fit sw hw (lsb + i.width) is valid.1 (omega arith)),
+    )
 
 alerts_fit : (lsb : ℕ) (as' : List AlertDesc) → AllOf IsValidAlert as' → lsb + length as' ≤ 32 → FieldsFit lsb (alert_fields lsb as')
 unfolding alert_fields
 alerts_fit lsb [] valid room = tt
 alerts_fit lsb (a ∷ as') valid room =
-    let next : lsb + 1 ≡ suc (lsb + 1 - 1) = omega arith in
-    (valid.0,
+    let next : lsb + 1 ≡ suc (lsb + 1 - 1) = omega arith in (
+      valid.0,
       omega arith,
       omega arith,
       omega arith,
       pow_pos (suc (lsb + 1 - 1) - lsb),
-      subst (λ from. FieldsFit from (alert_fields (lsb + 1) as')) next (alerts_fit (lsb + 1) as' valid.1 (omega arith)))
+      subst (λ from. FieldsFit from (alert_fields (lsb + 1) as')) next (alerts_fit (lsb + 1) as' valid.1 (omega arith)),
+    )
 
 interrupt_some : (sw : IntrDesc → SwAccess) (hw : HwAccess) (lsb : ℕ) (is : List IntrDesc) → has_some is ≡ true → HasField (interrupt_fields sw hw lsb is)
 unfolding interrupt_fields
@@ -80,11 +82,16 @@ three_words = (search rules, search rules, search rules)
 
 interrupt_registers_valid : (b : BlockDesc) → AllOf IsValidInterrupt b.intrs → sum_by (λ i. i.width) b.intrs ≤ 32 → has_some b.intrs ≡ true → AllOf IsValidItem (interrupt_registers b)
 unfolding interrupt_registers
-interrupt_registers_valid b valid room some =
-    (register_valid (codes "INTR_STATE") _ false b.intrs_at three_words.0 (interrupt_some state_access Hrw 0 b.intrs some) (interrupts_fit state_access Hrw 0 b.intrs valid (omega arith)),
-      (register_valid (codes "INTR_ENABLE") _ false b.intrs_at three_words.1 (interrupt_some (λ i. Rw) Hro 0 b.intrs some) (interrupts_fit (λ i. Rw) Hro 0 b.intrs valid (omega arith)),
-        (register_valid (codes "INTR_TEST") _ true b.intrs_at three_words.2 (interrupt_some (λ i. Wo) Hro 0 b.intrs some) (interrupts_fit (λ i. Wo) Hro 0 b.intrs valid (omega arith)),
-          tt)))
+interrupt_registers_valid b valid room some = (
+  register_valid (codes "INTR_STATE") _ false b.intrs_at three_words.0 (interrupt_some state_access Hrw 0 b.intrs some) (interrupts_fit state_access Hrw 0 b.intrs valid (omega arith)),
+  (
+    register_valid (codes "INTR_ENABLE") _ false b.intrs_at three_words.1 (interrupt_some (λ i. Rw) Hro 0 b.intrs some) (interrupts_fit (λ i. Rw) Hro 0 b.intrs valid (omega arith)),
+    (
+      register_valid (codes "INTR_TEST") _ true b.intrs_at three_words.2 (interrupt_some (λ i. Wo) Hro 0 b.intrs some) (interrupts_fit (λ i. Wo) Hro 0 b.intrs valid (omega arith)),
+      tt,
+    ),
+  ),
+)
 
 alert_registers_valid : (b : BlockDesc) → AllOf IsValidAlert b.alerts → length b.alerts ≤ 32 → has_some b.alerts ≡ true → AllOf IsValidItem (alert_registers b)
 unfolding alert_registers

@@ -49,7 +49,10 @@ pub fn expand(alloc: Global, block: &BlockDesc) -> Result<List<FaceItems>, DescF
 {
     let too_large = is_too_large(block);
     let early = first_early(block, too_large);
-    if let Some(found) = early && too_large && all_behind(block) {
+    if let Some(found) = early
+        && too_large
+        && all_behind(block)
+    {
         return Err(refusal(alloc, found, block.file));
     }
     let faces = made_items(alloc, block)?;

@@ -104,11 +104,7 @@ fn copies_in_word(multireg: &MultiDesc, number: u32) -> u32
 }
 
 /// The fields of word `number`, of its copies in order.
-fn word_fields(
-    alloc: Global,
-    multireg: &MultiDesc,
-    number: u32,
-) -> Result<List<FieldDesc>, Memory>
+fn word_fields(alloc: Global, multireg: &MultiDesc, number: u32) -> Result<List<FieldDesc>, Memory>
     requires valid { IsValidMultireg multireg.now }
     requires word { number < word_count multireg.now }
     ensures { IfOk result (λ fields. fields ≡ word_fields multireg.now number) }

@@ -61,7 +61,12 @@ fn first_in_present<L: Labelled>(many: bool, at: At, labelled: &[L]) -> Option<F
 
 /// The first that a list of interrupts or alerts breaks; names count only where its register is there.
 #[tactic(auto, unfolding(crate::specs::Parts::Faults::list_faults))]
-fn first_in_list<L: Labelled>(many: bool, at: At, present: bool, labelled: &[L]) -> Option<Found<'_>>
+fn first_in_list<L: Labelled>(
+    many: bool,
+    at: At,
+    present: bool,
+    labelled: &[L],
+) -> Option<Found<'_>>
     ensures { sees result ≡ first_of (list_faults many at present (map L.of labelled.now)) }
 {
     if present {
@@ -77,7 +82,12 @@ fn first_in_interrupts(block: &BlockDesc) -> Option<Found<'_>>
 {
     let interrupts = block.intrs.as_slice();
     let present = !block.faces.is_empty() && block.auto_intr;
-    first_in_list(has_many_bits(interrupts), block.intrs_at, present, interrupts)
+    first_in_list(
+        has_many_bits(interrupts),
+        block.intrs_at,
+        present,
+        interrupts,
+    )
 }
 
 #[tactic(auto, unfolding(crate::specs::Parts::Faults::alert_faults))]

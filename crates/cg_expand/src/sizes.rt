@@ -38,7 +38,10 @@ impl Size {
     {
         Size {
             rows: self.rows.saturating_add(other.rows).min(MOST_ROWS + 1),
-            fields: self.fields.saturating_add(other.fields).min(MOST_FIELDS + 1),
+            fields: self
+                .fields
+                .saturating_add(other.fields)
+                .min(MOST_FIELDS + 1),
         }
     }
 

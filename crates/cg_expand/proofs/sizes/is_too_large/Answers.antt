@@ -14,8 +14,8 @@ returns c =
     let some : has_some b.faces ≡ true = some_unless_empty b.faces (λ (none : b.faces ≡ []). search rules) in
     let faces = c.faces_size.ensures ∙ ap (λ fs. capped (sum_by face_rows fs) (sum_by face_fields fs)) c.as_slice.ensures in
     let size = c.plus.ensures
-      ∙ (λ i. capped ((c.automatic_size.ensures i).rows + (faces i).rows) ((c.automatic_size.ensures i).fields + (faces i).fields))
-      ∙ capped_twice (sum_by rows_in (automatic_items b)) (sum_by face_rows b.faces) (sum_by fields_in (automatic_items b)) (sum_by face_fields b.faces) in
+    ∙ (λ i. capped ((c.automatic_size.ensures i).rows + (faces i).rows) ((c.automatic_size.ensures i).fields + (faces i).fields))
+    ∙ capped_twice (sum_by rows_in (automatic_items b)) (sum_by face_rows b.faces) (sum_by fields_in (automatic_items b)) (sum_by face_fields b.faces) in
     c.is_too_large.ensures
     ∙ (λ i. nat_lt 2048 (size i).rows || nat_lt 4096 (size i).fields)
     ∙ size_of_faces (automatic_items b) b.faces c.requires some

@@ -1,11 +1,15 @@
-use Rattle.std.proofs.Common.{ℕ, List, ◌||◌, not, true, ap, ◌∙◌}
+use Rattle.std.proofs.Common.{ℕ, ◌≡◌, Bool, true, false, List, ◌||◌, cond, not, refl, ap, ◌∙◌}
 use Rattle.std.proofs.lemmas.Map.Text.{hash_set_updates_text}
 use Rattle.std.specs.HashSet.{contains_text}
 use Rattle.std.specs.String.{string_bytes}
 use Rattle.std.specs.Str.{bytes_eq, str_to_ascii_lowercase}
 use Rattle.cg_expand.specs.Parts.Names.{has}
-use Rattle.cg_expand.proofs.Bools.{or_cond}
 use Rattle.cg_expand.proofs.names.Names.add.Goals as goal
+
+-- `||` by a choice
+or_cond : (a b : Bool) → cond a true b ≡ (a || b)
+or_cond true b = refl
+or_cond false b = refl
 
 pub returns-clause-new : goal.returns-clause-new
 unfolding has
