@@ -1,0 +1,6 @@
+//! Blocks that are expanded, and blocks that are refused.
+
+mod blocks;
+mod faults;
+mod items;
+mod limits;
