@@ -8,6 +8,6 @@ pub mod Dues
 pub mod Once
 pub mod Endings
 pub mod Kept
-pub mod Owed
+pub mod Valid
 pub mod Meanings
 pub mod Examples

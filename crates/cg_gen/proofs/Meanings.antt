@@ -33,7 +33,7 @@ use Rattle.cg_gen.specs.Stages.{description, IsLaidOutAs}
 use Rattle.cg_gen.specs.Texts.{put_changes, text_change}
 use Rattle.cg_gen.proofs.Kept.{after, changed_is, Agree, untouched, kept, puts_in, puts_out}
 use Rattle.cg_gen.proofs.Modules.{Acts, all_act}
-use Rattle.cg_gen.proofs.Owed.{described_is_valid, items_are_valid}
+use Rattle.cg_gen.proofs.Valid.{described_is_valid, items_are_valid}
 use Rattle.cg_gen.proofs.Puts.{stored, register_changes, texts_are}
 
 -- ---- texts have names of their own

@@ -1,0 +1,36 @@
+-- Where no rule is broken, a description and its items are valid.
+use Rattle.std.proofs.Common.{◌≡◌, ◌⊎◌, ℕ, ◌<◌, ◌≤◌, List, [], ◌∷◌, Option, None, length, sum_by, refl, ap, ◌∙◌, inl, inr, arith}
+use Rattle.std.proofs.lemmas.Nat.{lt_or_le}
+use Rattle.cg_svspec.specs.Printable.{AllOf}
+use Rattle.cg_desc.specs.Items.{items_of_block}
+use Rattle.cg_desc.specs.Valid.{IsValidBlock, IsValidItem}
+use Rattle.cg_desc.specs.declared.block.BlockDesc.{BlockDesc}
+use Rattle.cg_finding.specs.Finding.{Finding, finding, In, first_of, of_least_phase}
+use Rattle.cg_finding.proofs.Firsts.{first_of-empty}
+use Rattle.cg_hjson.specs.declared.tree.Tree.{Tree}
+use Rattle.cg_blkread.specs.Described.{block_of}
+use Rattle.cg_blkread.specs.Keys.{key_faults}
+use Rattle.cg_blkread.specs.Reads.{value_faults, Violates as BreaksKeysOrValues}
+use Rattle.cg_blkread.proofs.Sound.Block.{valid_block}
+use Rattle.cg_expand.specs.Violations.{Violates as BreaksNamesOrCounts, interrupt_bits, interrupts, alerts}
+use Rattle.cg_expand.proofs.ValidItems.{block_valid}
+
+neither_phase : (keys values : List Finding) → ((f : Finding) → ¬ In f (of_least_phase keys values)) → (keys ≡ []) × (values ≡ [])
+neither_phase [] [] none = (refl, refl)
+neither_phase [] (f ∷ fs) none = absurd (none f (inl refl))
+neither_phase (f ∷ fs) values none = absurd (none f (inl refl))
+
+pub described_is_valid : (file : ℕ) (t : Tree) → ((f : Finding) → ¬ BreaksKeysOrValues t f) → IsValidBlock (block_of file t)
+described_is_valid file t none =
+    let both = neither_phase (key_faults t) (value_faults t) none in
+    valid_block file t (ap first_of both.0 ∙ first_of-empty) (ap first_of both.1 ∙ first_of-empty)
+
+few_by : (most n : ℕ) → ¬ (most < n) → (most < n) ⊎ (n ≤ most) → n ≤ most
+few_by most n none (inl many) = absurd (none many)
+few_by most n none (inr few) = few
+
+pub items_are_valid : (b : BlockDesc) → IsValidBlock b → ((f : Finding) → ¬ BreaksNamesOrCounts b f) → AllOf (λ face. AllOf IsValidItem face.items) (items_of_block b)
+unfolding interrupt_bits
+items_are_valid b valid none =
+    block_valid b valid (few_by 32 (interrupt_bits b) (λ many. none (finding 4 42 b.intrs_at []) (interrupts many)) (lt_or_le 32 (interrupt_bits b)))
+    (few_by 32 (length b.alerts) (λ many. none (finding 4 42 b.alerts_at []) (alerts many)) (lt_or_le 32 (length b.alerts)))
