@@ -189,6 +189,7 @@ none_seen ts = ap (λ b. b || has_same_names ts) (none ts)
     nothing : (o : Option (List ℕ)) → is_seen [] false o ≡ false
     nothing None = refl
     nothing (Some n) = refl
+
     none : (us : List Tree) → list_any (λ t. is_seen [] false (interface_name t)) us ≡ false
     none [] = refl
     none (u ∷ us) = λ i. nothing (interface_name u) i || none us i

@@ -54,11 +54,7 @@ fn is_good_interface(tree: &Tree) -> bool
 {
     object(tree).is_some()
         && value_at(members(tree), "direction").is_some()
-        && is_fit_at(
-            &[Form::Word(Words::Direction)],
-            members(tree),
-            "direction",
-        )
+        && is_fit_at(&[Form::Word(Words::Direction)], members(tree), "direction")
         && is_fit_at(&[Form::Name], members(tree), "name")
 }
 
@@ -218,10 +214,7 @@ fn first_together<'a>(
     let equal = equal_names(alloc, block, device_faces)?;
     let shape = first_in_shape(alloc, block, device_faces)?;
     let missing = first_missing_list(alloc, block, device_faces)?;
-    Ok(earlier_of(
-        nameless,
-        earlier_of(equal, earlier_of(shape, missing)),
-    ))
+    Ok(earlier_of(nameless, earlier_of(equal, earlier_of(shape, missing))))
 }
 
 /// The first rule that the names of the interfaces together break, or the shape and the lists of `registers`.

@@ -72,9 +72,7 @@ fn is_entry_less(tree: &Tree) -> bool
 fn has_stray_list(names: &HashSet<&str>, lists: &[EntryList]) -> bool
     ensures { result ≡ list_any (λ l. not (contains_by (λ k. bytes_eq l.key.now k.now) names.now) && not (is_entry_less l.value.now)) lists.now }
 {
-    lists
-        .iter()
-        .any(|list| !names.contains(list.key) && !is_entry_less(list.value))
+    lists.iter().any(|list| !names.contains(list.key) && !is_entry_less(list.value))
 }
 
 /// Whether `registers` has entries for which there is no device interface.
@@ -146,7 +144,11 @@ fn missing_list<'a>(opener: At, keys: &HashSet<&str>, interface: &'a Tree) -> Op
 }
 
 #[tactic(auto, using(cg_finding::proofs::Firsts::firsts))]
-fn first_missing<'a>(opener: At, keys: &HashSet<&str>, device_faces: &[&'a Tree]) -> Option<Found<'a>>
+fn first_missing<'a>(
+    opener: At,
+    keys: &HashSet<&str>,
+    device_faces: &[&'a Tree],
+) -> Option<Found<'a>>
     ensures { sees result ≡ first_of (flat_map (λ t. option_map_or (λ n. cond (contains_by (λ k. bytes_eq n k.now) keys.now) [] (finding 2 21 opener n ∷ [])) (interface_name t) []) (map (λ t. t.now) device_faces.now)) }
 {
     let mut first = None;

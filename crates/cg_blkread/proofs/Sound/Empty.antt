@@ -1,5 +1,5 @@
 -- What follows where nothing is found.
-use Rattle.std.proofs.Common.{◌≡◌, Bool, true, false, cond, ◌||◌, List, [], ◌∷◌, ◌++◌, refl, sym, ap, ◌∙◌}
+use Rattle.std.proofs.Common.{◌≡◌, Bool, true, false, cond, ◌||◌, List, [], ◌∷◌, ◌++◌, refl}
 use Rattle.std.specs.List.{flat_map, list_any}
 use Rattle.cg_svspec.specs.Printable.{AllOf}
 use Rattle.cg_finding.specs.Finding.{Finding}

@@ -1,11 +1,10 @@
 -- The names in entries where nothing is found in the lists of entries.
-use Rattle.std.proofs.Common.{◌≡◌, ℕ, Bool, true, false, cond, codes, List, [], ◌∷◌, ◌++◌, Option, Some, None, refl, sym, ap, ◌∙◌}
+use Rattle.std.proofs.Common.{◌≡◌, ℕ, true, cond, codes, List, [], ◌∷◌, ◌++◌, Option, Some, None, sym, ap, ◌∙◌}
 use Rattle.std.specs.Bool.{⊤}
 use Rattle.std.specs.List.{flat_map}
 use Rattle.std.specs.Option.{MatchOption, option_map_or}
 use Rattle.cg_svspec.specs.Printable.{AllOf}
 use Rattle.cg_desc.specs.Valid.{IsNameIfAny}
-use Rattle.cg_finding.specs.Finding.{Finding}
 use Rattle.cg_hjson.specs.declared.tree.Tree.{Tree}
 use Rattle.cg_hjson.specs.declared.tree.Member.{Member}
 use Rattle.cg_keys.specs.Elements.{element_faults, elements, list_faults, object_faults}
@@ -45,11 +44,12 @@ register_named keys t is h =
     let first = empty_parts (object_faults (needs (codes "name") (Name ∷ []) ∷ keys) t) _ h in
     let second = empty_parts (register_outside (members_of t)) _ first.1 in
     let third = empty_parts (element_faults (codes "fields") (members_of t)) _ second.1 in
-    let fields : List Tree = elements (codes "fields") (members_of t) in
-    (named_first t keys (object_table (needs (codes "name") (Name ∷ []) ∷ keys) t is first.0),
-     all_from (λ f. (fits Object f ≡ true) × (field_faults (members_of t) f ≡ [])) NamesFit fields (λ f both. field_named (members_of t) f both.0 both.1)
-     (all_both (λ f. fits Object f ≡ true) (λ f. field_faults (members_of t) f ≡ []) fields
-     (elements_are_objects (codes "fields") (members_of t) third.0) (empty_each (field_faults (members_of t)) fields third.1)))
+    let fields : List Tree = elements (codes "fields") (members_of t) in (
+      named_first t keys (object_table (needs (codes "name") (Name ∷ []) ∷ keys) t is first.0),
+      all_from (λ f. (fits Object f ≡ true) × (field_faults (members_of t) f ≡ [])) NamesFit fields (λ f both. field_named (members_of t) f both.0 both.1)
+          (all_both (λ f. fits Object f ≡ true) (λ f. field_faults (members_of t) f ≡ []) fields
+          (elements_are_objects (codes "fields") (members_of t) third.0) (empty_each (field_faults (members_of t)) fields third.1)),
+    )
 
 multireg_named : (t : Tree) → multireg_faults t ≡ [] → RegisterWords t
 unfolding multireg_faults
@@ -67,10 +67,10 @@ window_named t h =
 -- the names in an entry, by what stands at its keys
 named_by : (t : Tree) (m w s r : Option Tree) → fits Object t ≡ true
     → option_map_or multireg_faults m
-      (option_map_or window_faults w
-      (option_map_or (value_faults (codes "skipto") (word_number ∷ [])) s
-      (option_map_or (value_faults (codes "reserved") (word_number ∷ [])) r
-      (register_faults register_keys t)))) ≡ []
+    (option_map_or window_faults w
+    (option_map_or (value_faults (codes "skipto") (word_number ∷ [])) s
+    (option_map_or (value_faults (codes "reserved") (word_number ∷ [])) r
+    (register_faults register_keys t)))) ≡ []
     → MatchOption m (MatchOption w (MatchOption s (MatchOption r (RegisterWords t) (λ r. ⊤)) (λ s. ⊤)) HasName) RegisterWords
 named_by t (Some m) w s r is h = multireg_named m h
 named_by t None (Some w) s r is h = window_named w h

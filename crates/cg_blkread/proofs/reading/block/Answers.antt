@@ -1,6 +1,6 @@
-use Rattle.std.proofs.Common.{◌≡◌, Option, Some, None, sym, ap, ◌∙◌, subst}
+use Rattle.std.proofs.Common.{◌≡◌, Some, None, sym, ap, ◌∙◌, subst}
 use Rattle.cg_desc.specs.Valid.{IsValidBlock}
-use Rattle.cg_finding.specs.Finding.{Finding, first_of}
+use Rattle.cg_finding.specs.Finding.{first_of}
 use Rattle.cg_finding.specs.Found.{sees, seen}
 use Rattle.cg_blkread.specs.Keys.{key_faults}
 use Rattle.cg_blkread.specs.Reads.{value_faults}
