@@ -28,6 +28,11 @@ pub all_from : {X : Type 0} (P Q : X → Type 0) (xs : List X) → ((x : X) → 
 all_from P Q [] step all = tt
 all_from P Q (x ∷ xs) step all = (step x all.0, all_from P Q xs step all.1)
 
+-- two facts of each item are facts together
+pub all_both : {X : Type 0} (P Q : X → Type 0) (xs : List X) → AllOf P xs → AllOf Q xs → AllOf (λ x. P x × Q x) xs
+all_both P Q [] ps qs = tt
+all_both P Q (x ∷ xs) ps qs = ((ps.0, qs.0), all_both P Q xs ps.1 qs.1)
+
 -- no item passes the test
 pub none_passes : {X : Type 0} (test : X → Bool) (xs : List X) → list_any test xs ≡ false → AllOf (λ x. test x ≡ false) xs
 none_passes test [] h = tt
