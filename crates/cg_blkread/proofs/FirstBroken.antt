@@ -1,5 +1,5 @@
 -- From the first of each phase to what reading a block answers.
-use Rattle.std.proofs.Common.{ℕ, ◌≡◌, List, [], ◌∷◌, Option, Some, None, refl, sym, ap, ◌∙◌, subst}
+use Rattle.std.proofs.Common.{ℕ, ◌≡◌, List, Option, Some, None, sym, ap, ◌∙◌, subst}
 use Rattle.std.specs.List.{flat_map}
 use Rattle.cg_desc.specs.declared.fault.DescFault.{DescFault}
 use Rattle.cg_desc.specs.declared.fault.DescFault.TheVariants.{Fault, Memory}
@@ -17,10 +17,14 @@ use Rattle.cg_blkread.specs.declared.raw.RawEntry.{RawEntry}
 -- a refusal that names the first of all that is broken
 refused : (e : DescFault) (file : ℕ) (t : Tree) (fs : List Finding) → of_least_phase (key_faults t) (value_faults t) ≡ fs → Refuses e file fs
     → RefusesFirst e file (Violates t)
-refused (Fault fault) file t fs is (f, names, first) = (f, names, record {
+refused (Fault fault) file t fs is (f, names, first) = (
+  f,
+  names,
+  record {
     violates = subst (In f) (sym is) first.among;
     least = λ (number : ℕ) (g : Finding) violates. first.least number g (subst (In g) is violates);
-  })
+  },
+)
 refused Memory file t fs is refuses = tt
 
 -- one that names the first of the rules on keys

@@ -1,14 +1,12 @@
 -- The description of a block that breaks no rule.
-use Rattle.std.specs.Prelude.{ℕ, ◌+◌, ◌-◌, ◌^◌, ◌/◌, ◌%◌, Bool, true, false, not, nat_lt, cond, List, [], ◌∷◌, ◌++◌, map, flat_map, codes, Option, Some, None, option_map, unwrap_or}
+use Rattle.std.specs.Prelude.{ℕ, ◌+◌, ◌-◌, ◌^◌, ◌/◌, ◌%◌, false, not, nat_lt, cond, List, [], ◌∷◌, ◌++◌, map, codes, Option, Some, None, unwrap_or}
 use Rattle.std.specs.Option.{option_map_or}
 use Rattle.std.specs.Str.{bytes_eq}
-use Rattle.cg_desc.specs.declared.place.At.{At}
 use Rattle.cg_desc.specs.declared.block.FieldDesc.{FieldDesc}
 use Rattle.cg_desc.specs.declared.block.RegDesc.{RegDesc}
 use Rattle.cg_desc.specs.declared.block.Written.{Written}
 use Rattle.cg_desc.specs.declared.block.Written.TheVariants as written
 use Rattle.cg_desc.specs.declared.block.FaceDesc.{FaceDesc}
-use Rattle.cg_desc.specs.declared.block.HostFace.{HostFace}
 use Rattle.cg_desc.specs.declared.block.ClockDesc.{ClockDesc}
 use Rattle.cg_desc.specs.declared.block.IntrDesc.{IntrDesc}
 use Rattle.cg_desc.specs.declared.block.AlertDesc.{AlertDesc}

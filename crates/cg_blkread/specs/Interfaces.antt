@@ -1,12 +1,12 @@
 -- The interfaces of a block, and what its `registers` are to be for them.
-use Rattle.std.specs.Prelude.{◌≡◌, ℕ, ◌+◌, ◌==◌, nat_lt, Bool, true, false, not, ◌&&◌, ◌||◌, cond, is_some, List, [], ◌∷◌, ◌++◌, map, length, filter, count_by, flat_map, codes, Option, Some, None}
+use Rattle.std.specs.Prelude.{ℕ, ◌==◌, nat_lt, Bool, true, false, not, ◌&&◌, ◌||◌, cond, is_some, List, [], ◌∷◌, ◌++◌, map, length, filter, flat_map, codes, Option, Some, None}
 use Rattle.std.specs.List.{list_any, list_all}
 use Rattle.std.specs.Option.{option_map_or}
 use Rattle.std.specs.Str.{bytes_eq}
 use Rattle.cg_desc.specs.declared.place.At.{At}
 use Rattle.cg_hjson.specs.declared.tree.Tree.{Tree}
 use Rattle.cg_hjson.specs.declared.tree.Member.{Member}
-use Rattle.cg_finding.specs.Finding.{Finding, finding, each_after}
+use Rattle.cg_finding.specs.Finding.{Finding, finding}
 use Rattle.cg_keys.specs.Values.{object_in, array_in, members_of}
 use Rattle.cg_keys.specs.Table.{value_at}
 use Rattle.cg_keys.specs.Elements.{elements}

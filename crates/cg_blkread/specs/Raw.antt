@@ -1,15 +1,14 @@
 -- Entries as they are written, with the names, kinds and numbers that count.
-use Rattle.std.specs.Prelude.{ℕ, ◌+◌, ◌==◌, Bool, true, false, not, ◌&&◌, cond, List, [], ◌∷◌, ◌++◌, map, length, codes, decimal, Option, Some, None, option_map, option_and_then, unwrap_or}
+use Rattle.std.specs.Prelude.{ℕ, ◌+◌, ◌==◌, Bool, true, false, not, ◌&&◌, cond, List, [], ◌∷◌, ◌++◌, map, length, codes, decimal, Option, Some, None, option_and_then, unwrap_or}
 use Rattle.std.specs.Option.{option_map_or}
 use Rattle.std.specs.Str.{bytes_eq}
-use Rattle.cg_desc.specs.declared.place.At.{At}
 use Rattle.cg_desc.specs.declared.block.SwAccess.{SwAccess}
 use Rattle.cg_desc.specs.declared.block.SwAccess.TheVariants as software
 use Rattle.cg_desc.specs.declared.block.HwAccess.{HwAccess}
 use Rattle.cg_desc.specs.declared.block.HwAccess.TheVariants as hardware
 use Rattle.cg_hjson.specs.declared.tree.Tree.{Tree}
 use Rattle.cg_hjson.specs.declared.tree.Member.{Member}
-use Rattle.cg_keys.specs.Values.{text_in, members_of}
+use Rattle.cg_keys.specs.Values.{members_of}
 use Rattle.cg_keys.specs.Forms.{number_within}
 use Rattle.cg_keys.specs.Table.{value_at}
 use Rattle.cg_keys.specs.Elements.{elements}

@@ -1,5 +1,5 @@
 -- The keys of a block's objects, with the forms of their values (OpenTitan Register Tool, register description keys).
-use Rattle.std.specs.Prelude.{ℕ, ◌++◌, List, [], ◌∷◌, codes}
+use Rattle.std.specs.Prelude.{List, [], ◌∷◌, codes}
 use Rattle.cg_keys.specs.Table.{Key, needs, may}
 use Rattle.cg_keys.specs.declared.forms.Form.{Form}
 use Rattle.cg_keys.specs.declared.forms.Form.TheVariants.{Text, Name, ParameterName, Number, Boolean, Items, Object, Word}

@@ -98,10 +98,7 @@ pub(crate) fn describe_clocks(alloc: Global, items: &[Tree]) -> Result<List<Cloc
 }
 
 /// The interrupts of a list.
-pub(crate) fn describe_interrupts(
-    alloc: Global,
-    items: &[Tree],
-) -> Result<List<IntrDesc>, Memory>
+pub(crate) fn describe_interrupts(alloc: Global, items: &[Tree]) -> Result<List<IntrDesc>, Memory>
     ensures { IfOk result (λ interrupts. interrupts ≡ map interrupt_desc items.now) }
 {
     let mut interrupts = List::new(alloc);
@@ -142,8 +139,23 @@ pub(crate) fn describe_pins(alloc: Global, block: &[Member]) -> Result<List<IoDe
     ensures { IfOk result (λ pins. pins ≡ pins_of block.now) }
 {
     let mut pins = List::new(alloc);
-    add_pins(alloc, IoDir::In, elements(block, "available_input_list"), &mut pins)?;
-    add_pins(alloc, IoDir::Out, elements(block, "available_output_list"), &mut pins)?;
-    add_pins(alloc, IoDir::InOut, elements(block, "available_inout_list"), &mut pins)?;
+    add_pins(
+        alloc,
+        IoDir::In,
+        elements(block, "available_input_list"),
+        &mut pins,
+    )?;
+    add_pins(
+        alloc,
+        IoDir::Out,
+        elements(block, "available_output_list"),
+        &mut pins,
+    )?;
+    add_pins(
+        alloc,
+        IoDir::InOut,
+        elements(block, "available_inout_list"),
+        &mut pins,
+    )?;
     Ok(pins)
 }

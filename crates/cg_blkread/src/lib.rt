@@ -24,3 +24,6 @@ mod values;
 
 pub use raw::{Bits, RawEntry, RawField, RawMultireg, RawRegister, RawWindow};
 pub use reading::block;
+
+#[cfg(test)]
+mod tests;

@@ -14,7 +14,8 @@ use cg_base::{List, Memory, Text};
 use cg_desc::SwAccess;
 use cg_hjson::{Member, Tree};
 use cg_keys::{
-    boolean_at, elements, items, members, number_within, place_at, text_at, value_at, window_access_at,
+    boolean_at, elements, items, members, number_within, place_at, text_at, value_at,
+    window_access_at,
 };
 use std::alloc::Global;
 
@@ -156,9 +157,7 @@ fn read_lists(
     parameters: &Parameters,
     lists: &[EntryList],
 ) -> Result<List<RawEntry>, Memory>
-    ensures {
-        IfOk result (λ entries. entries ≡ flat_map (λ l. map (raw_entry parameters.now) (items_of l.value)) (map list_of lists.now))
-    }
+    ensures { IfOk result (λ entries. entries ≡ flat_map (λ l. map (raw_entry parameters.now) (items_of l.value)) (map list_of lists.now)) }
 {
     let mut entries = List::new(alloc);
     for list in lists {

@@ -1,6 +1,5 @@
 -- The description of a block of which nothing is found is valid.
-use Rattle.std.proofs.Common.{ℕ, ◌≡◌, List, [], ◌∷◌, Option, None, map, subst, sym}
-use Rattle.cg_svspec.specs.Printable.{AllOf}
+use Rattle.std.proofs.Common.{ℕ, ◌≡◌, [], None}
 use Rattle.cg_desc.specs.Valid.{IsNameIfAny, IsValidBlock, IsValidInterface}
 use Rattle.cg_hjson.specs.declared.tree.Tree.{Tree}
 use Rattle.cg_keys.specs.Values.{members_of}
@@ -19,9 +18,9 @@ use Rattle.cg_blkread.proofs.Sound.Values.{valid_interface_entries}
 valid_interface : (t d : Tree) → key_faults t ≡ [] → value_faults t ≡ [] → IsNameIfAny (interface_name d) → IsValidInterface (face_desc (members_of t) d)
 unfolding face_desc
 valid_interface t d keys values name = record {
-    name = name;
-    entries = valid_interface_entries t d (entry_names t keys) values;
-  }
+  name = name;
+  entries = valid_interface_entries t d (entry_names t keys) values;
+}
 
 -- where nothing comes first of the rules on keys, nor of those on values
 pub valid_block : (file : ℕ) (t : Tree) → first_of (key_faults t) ≡ None → first_of (value_faults t) ≡ None → IsValidBlock (block_of file t)
@@ -34,8 +33,8 @@ valid_block file t no_key no_value =
       interrupts = interrupts_valid file t keys;
       alerts = alerts_valid file t keys;
       interfaces = all_mapped IsValidInterface (face_desc (members_of t)) (devices (members_of t))
-        (all_from (λ d. IsNameIfAny (interface_name d)) (λ d. IsValidInterface (face_desc (members_of t) d)) (devices (members_of t))
-        (λ d name. valid_interface t d keys values name) (face_names t keys));
+          (all_from (λ d. IsNameIfAny (interface_name d)) (λ d. IsValidInterface (face_desc (members_of t) d)) (devices (members_of t))
+          (λ d name. valid_interface t d keys values name) (face_names t keys));
       interfaces_differ = faces_differ file t keys;
       few_interfaces = few_faces file t keys;
     }

@@ -1,5 +1,5 @@
 -- What follows where nothing is found.
-use Rattle.std.proofs.Common.{◌≡◌, Bool, true, false, cond, ◌||◌, List, [], ◌∷◌, ◌++◌, refl, sym, ap, ◌∙◌}
+use Rattle.std.proofs.Common.{◌≡◌, Bool, true, false, cond, ◌||◌, List, [], ◌∷◌, ◌++◌, refl}
 use Rattle.std.specs.List.{flat_map, list_any}
 use Rattle.cg_svspec.specs.Printable.{AllOf}
 use Rattle.cg_finding.specs.Finding.{Finding}
@@ -28,6 +28,7 @@ pub all_from : {X : Type 0} (P Q : X → Type 0) (xs : List X) → ((x : X) → 
 all_from P Q [] step all = tt
 all_from P Q (x ∷ xs) step all = (step x all.0, all_from P Q xs step all.1)
 
+-- two facts of each item are facts together
 pub all_both : {X : Type 0} (P Q : X → Type 0) (xs : List X) → AllOf P xs → AllOf Q xs → AllOf (λ x. P x × Q x) xs
 all_both P Q [] ps qs = tt
 all_both P Q (x ∷ xs) ps qs = ((ps.0, qs.0), all_both P Q xs ps.1 qs.1)

@@ -1,5 +1,5 @@
 -- Entries of which nothing is found have valid descriptions.
-use Rattle.std.proofs.Common.{ℕ, ◌≡◌, ◌+◌, ◌^◌, ◌<◌, ◌≤◌, suc, Bool, true, false, not, ◌&&◌, ◌==◌, nat_le, nat_lt, cond, is_some, List, [], ◌∷◌, ◌++◌, map, length, codes, Option, Some, None, refl, sym, ap, ◌∙◌, subst, arith, if◌then◌else◌}
+use Rattle.std.proofs.Common.{ℕ, ◌≡◌, ◌<◌, ◌≤◌, suc, Bool, true, false, ◌==◌, nat_le, nat_lt, is_some, List, [], ◌∷◌, map, length, codes, Option, Some, None, arith, if◌then◌else◌}
 use Rattle.std.proofs.lemmas.Bool.{and_parts, eqb-true}
 use Rattle.std.proofs.lemmas.Bool.Decides.{nat_tests}
 use Rattle.std.specs.Bool.{⊤}
@@ -9,10 +9,8 @@ use Rattle.std.specs.Str.{bytes_eq}
 use Rattle.cg_svspec.specs.Characters.{IsWord}
 use Rattle.cg_svspec.specs.Printable.{AllOf}
 use Rattle.cg_desc.specs.Laid.{HasField, IsWindowAccess}
-use Rattle.cg_desc.specs.Valid.{HasOneField, IsValidEntry, IsValidMultireg, IsValidRegister, IsValidWindow}
-use Rattle.cg_desc.specs.declared.block.SwAccess.{SwAccess}
+use Rattle.cg_desc.specs.Valid.{HasOneField, IsValidEntry, IsValidRegister}
 use Rattle.cg_desc.specs.declared.block.SwAccess.TheVariants as software
-use Rattle.cg_desc.specs.declared.block.FieldDesc.{FieldDesc}
 use Rattle.cg_hjson.specs.declared.tree.Tree.{Tree}
 use Rattle.cg_finding.specs.Finding.{each_after}
 use Rattle.cg_keys.specs.Elements.{elements}
@@ -22,18 +20,16 @@ use Rattle.cg_keys.specs.Table.{value_at}
 use Rattle.cg_keys.specs.Values.{members_of}
 use Rattle.cg_blkread.specs.Described.{field_desc, in_bit_order, put_field, register_desc, written_entry}
 use Rattle.cg_blkread.specs.Raw.{Parameter, Shared, is_compact, number_or_zero, raw_entry, raw_fields, raw_multireg, raw_register, raw_window, shared_of}
-use Rattle.cg_blkread.specs.Values.{bad_bits, bad_count, bad_window, entry_values, is_count_to, no_fields, overlap, register_values, stray_reset, wide_reset}
+use Rattle.cg_blkread.specs.Values.{bad_bits, entry_values, is_count_to, no_fields, overlap, register_values, wide_reset}
 use Rattle.cg_blkread.specs.declared.raw.Bits.{Bits}
 use Rattle.cg_blkread.specs.declared.raw.RawField.{RawField}
 use Rattle.cg_blkread.specs.declared.raw.RawRegister.{RawRegister}
-use Rattle.cg_blkread.specs.declared.raw.RawMultireg.{RawMultireg}
-use Rattle.cg_blkread.specs.declared.raw.RawWindow.{RawWindow}
 use Rattle.cg_blkread.specs.declared.raw.RawEntry.{RawEntry}
 use Rattle.cg_blkread.specs.declared.raw.RawEntry.TheVariants as entry
 use Rattle.cg_blkread.proofs.Sound.Empty.{empty_each, empty_parts, empty_unless, empty_when}
 use Rattle.cg_blkread.proofs.Sound.Fields.{order_fits, order_has}
-use Rattle.cg_blkread.proofs.Sound.RawFields.{GoodIfAny, HasGoodBits, IsSound, NoneShares, Written, all_apart, all_fit, fields_written, none_overlaps}
-use Rattle.cg_blkread.proofs.Sound.Words.{EntryWords, HasName, NamesFit, RegisterWords}
+use Rattle.cg_blkread.proofs.Sound.RawFields.{GoodIfAny, HasGoodBits, IsSound, Written, all_apart, all_fit, fields_written, none_overlaps}
+use Rattle.cg_blkread.proofs.Sound.Words.{EntryWords, HasName, RegisterWords}
 
 -- ---- registers
 
@@ -46,13 +42,13 @@ sound_fields : (register : List ℕ) (fs : List RawField) → AllOf Written fs �
     → AllOf IsSound fs
 sound_fields register [] written bits resets = tt
 sound_fields register (f ∷ fs) written bits resets = (
-    record {
-      name = written.0.name;
-      bits = good_bits f.bits (empty_unless _ _ bits.0) written.0.bits;
-      resval = empty_when _ _ resets.0;
-    },
-    sound_fields register fs written.1 bits.1 resets.1,
-  )
+  record {
+    name = written.0.name;
+    bits = good_bits f.bits (empty_unless _ _ bits.0) written.0.bits;
+    resval = empty_when _ _ resets.0;
+  },
+  sound_fields register fs written.1 bits.1 resets.1,
+)
 
 some_field : (register : Option ℕ) (r : RawRegister) (fs : List RawField) → no_fields (record r { fields = fs }) ≡ [] → HasField (map (field_desc register) fs)
 some_field register r [] h = cc

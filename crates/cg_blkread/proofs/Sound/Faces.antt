@@ -1,9 +1,8 @@
 -- The device interfaces where nothing is found: at most eight, each of a good name if any, no two of one.
-use Rattle.std.proofs.Common.{◌≡◌, ℕ, ◌≤◌, Bool, true, false, ◌&&◌, ◌||◌, cond, codes, is_some, length, List, [], ◌∷◌, ◌++◌, map, Option, Some, None, refl, sym, ap, ◌∙◌}
+use Rattle.std.proofs.Common.{◌≡◌, ℕ, ◌≤◌, Bool, true, false, ◌&&◌, ◌||◌, cond, codes, is_some, length, List, [], ◌∷◌, map, Option, Some, None, refl, sym, ap, ◌∙◌}
 use Rattle.std.specs.Prelude.{nat_lt}
-use Rattle.std.specs.List.{filter, list_any, list_all}
+use Rattle.std.specs.List.{list_any, list_all}
 use Rattle.std.specs.Option.{option_map_or}
-use Rattle.std.specs.Str.{bytes_eq}
 use Rattle.std.specs.Cmp.Lexicographic.{nat_list_eq_equiv}
 use Rattle.std.proofs.lemmas.Bool.{both_ways, ltb-false}
 use Rattle.std.proofs.lemmas.List.{length-map}
@@ -11,18 +10,18 @@ use Rattle.cg_svspec.specs.Printable.{AllOf}
 use Rattle.cg_svspec.proofs.Runs.{or_false_left, or_false_right}
 use Rattle.cg_desc.specs.Valid.{InterfacesDiffer, IsNameIfAny}
 use Rattle.cg_desc.specs.declared.block.FaceDesc.{FaceDesc}
-use Rattle.cg_finding.specs.Finding.{Finding, finding}
+use Rattle.cg_finding.specs.Finding.{finding}
 use Rattle.cg_hjson.specs.declared.tree.Tree.{Tree}
 use Rattle.cg_hjson.specs.declared.tree.Member.{Member}
 use Rattle.cg_keys.specs.Elements.{elements, items_in}
 use Rattle.cg_keys.specs.Forms.{fits, fits_one}
 use Rattle.cg_keys.specs.Lookups.{is_fit_at}
 use Rattle.cg_keys.specs.Table.{key_faults, table_faults, value_at}
-use Rattle.cg_keys.specs.Values.{array_in, members_of, object_in, or_empty}
-use Rattle.cg_keys.specs.declared.forms.Form.TheVariants.{Items, Name, Object, Text, Word}
+use Rattle.cg_keys.specs.Values.{array_in, members_of, or_empty}
+use Rattle.cg_keys.specs.declared.forms.Form.TheVariants.{Items, Name, Object, Word}
 use Rattle.cg_keys.specs.declared.words.Words.TheVariants.{Direction}
 use Rattle.cg_blkread.specs.Described.{face_desc}
-use Rattle.cg_blkread.specs.Interfaces.{devices, equal_names, has_same_names, hosts, interface_faults, interface_name, interfaces, interfaces_are_good, is_device, is_good_interface, many_devices, missing_lists, nameless_devices, same_name, shape_faults}
+use Rattle.cg_blkread.specs.Interfaces.{devices, equal_names, has_same_names, hosts, interface_name, interfaces, interfaces_are_good, is_device, is_good_interface, many_devices, same_name}
 use Rattle.cg_blkread.specs.Keys.{objects_faults}
 use Rattle.cg_blkread.specs.Tables.{interface_keys}
 use Rattle.cg_blkread.proofs.Sound.Empty.{all_both, all_from, empty_parts, empty_when, none_passes}

@@ -1,10 +1,9 @@
 -- What a block is where it breaks no rule on keys, kinds and the profile.
-use Rattle.std.proofs.Common.{◌≡◌, ℕ, ◌≤◌, Bool, true, cond, codes, is_some, length, List, [], ◌∷◌, ◌++◌, map, sym, ap, ◌∙◌}
+use Rattle.std.proofs.Common.{◌≡◌, ℕ, ◌≤◌, Bool, true, cond, codes, is_some, length, List, [], ◌∷◌, ◌++◌, sym, ap, ◌∙◌}
 use Rattle.std.specs.List.{flat_map}
 use Rattle.cg_svspec.specs.Characters.{IsName}
 use Rattle.cg_svspec.specs.Printable.{AllOf}
 use Rattle.cg_desc.specs.Valid.{InterfacesDiffer, IsNameIfAny, IsValidAlert, IsValidInterrupt}
-use Rattle.cg_desc.specs.declared.block.FaceDesc.{FaceDesc}
 use Rattle.cg_finding.specs.Finding.{Finding}
 use Rattle.cg_hjson.specs.declared.tree.Tree.{Tree}
 use Rattle.cg_hjson.specs.declared.tree.Member.{Member}
@@ -14,7 +13,7 @@ use Rattle.cg_keys.specs.Lookups.{is_fit_at}
 use Rattle.cg_keys.specs.Table.{key_faults as table_row, table_faults, value_at}
 use Rattle.cg_keys.specs.Values.{items_of, members_of}
 use Rattle.cg_keys.specs.declared.forms.Form.TheVariants.{Items}
-use Rattle.cg_blkread.specs.Described.{alert_desc, block_of, face_desc, interrupt_desc}
+use Rattle.cg_blkread.specs.Described.{alert_desc, block_of, interrupt_desc}
 use Rattle.cg_blkread.specs.Interfaces.{EntryList, devices, entry_lists, equal_names, interface_faults, interface_name, interfaces, interfaces_are_good, many_devices, missing_lists, nameless_devices, shape_faults}
 use Rattle.cg_blkread.specs.Keys.{entry_list_faults, key_faults, lengths_faults, lists_faults, objects_faults, protocol_outside, width_outside}
 use Rattle.cg_blkread.specs.Tables.{alert_keys, block_keys, clocking_keys, interface_keys, interrupt_keys}

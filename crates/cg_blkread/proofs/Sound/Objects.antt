@@ -1,10 +1,9 @@
 -- What each element of a list is where nothing is found in the list.
-use Rattle.std.proofs.Common.{◌≡◌, ℕ, Bool, true, false, ◌&&◌, cond, is_some, List, [], ◌∷◌, ◌++◌, map, Option, Some, None, refl}
+use Rattle.std.proofs.Common.{◌≡◌, ℕ, Bool, true, false, ◌&&◌, cond, is_some, List, [], ◌∷◌, map, Option, Some, None, refl}
 use Rattle.std.specs.List.{filter, list_all}
 use Rattle.std.proofs.lemmas.Bool.{false≢true}
 use Rattle.cg_svspec.specs.Printable.{AllOf}
 use Rattle.cg_svspec.proofs.Runs.{both_pass}
-use Rattle.cg_desc.specs.declared.place.At.{At}
 use Rattle.cg_finding.specs.Finding.{finding}
 use Rattle.cg_hjson.specs.declared.tree.Tree.{Tree}
 use Rattle.cg_hjson.specs.declared.tree.Member.{Member}

@@ -1,12 +1,12 @@
 -- Fields as they are written, of which nothing is found, have descriptions that fit.
-use Rattle.std.proofs.Common.{ℕ, ◌≡◌, ◌+◌, ◌*◌, ◌-◌, ◌^◌, ◌/◌, ◌%◌, ◌<◌, ◌≤◌, suc, Bool, true, false, ◌&&◌, ◌==◌, nat_le, nat_lt, cond, is_some, ◌⊎◌, inl, inr, List, [], ◌∷◌, ◌++◌, map, take, drop, codes, Option, Some, None, refl, sym, ap, ◌∙◌, subst, arith}
+use Rattle.std.proofs.Common.{ℕ, ◌≡◌, ◌+◌, ◌*◌, ◌-◌, ◌^◌, ◌/◌, ◌<◌, ◌≤◌, suc, Bool, true, false, ◌&&◌, ◌==◌, nat_le, cond, ◌⊎◌, inl, inr, List, [], ◌∷◌, ◌++◌, map, take, drop, codes, Option, Some, None, refl, subst, arith}
 use Rattle.std.proofs.Math.Nat.{mod-lt}
 use Rattle.std.proofs.lemmas.Bool.{or_right}
 use Rattle.std.proofs.lemmas.Bool.Decides.{nat_tests}
 use Rattle.std.proofs.lemmas.Nat.{pow_pos}
 use Rattle.std.proofs.lemmas.Option.{cond_some, option_and_then_some, same_Some}
 use Rattle.std.specs.Fmt.{decimal}
-use Rattle.std.specs.List.{flat_map, list_any, position}
+use Rattle.std.specs.List.{position}
 use Rattle.std.specs.Option.{option_and_then, option_map_or, unwrap_or}
 use Rattle.cg_svspec.proofs.Numerals.{decimal_digits}
 use Rattle.cg_svspec.specs.Characters.{Each, IsWord, is_digit, is_first, is_name_character}
@@ -18,7 +18,7 @@ use Rattle.cg_keys.specs.Forms.{if_within, number_in, number_within}
 use Rattle.cg_keys.specs.Lookups.{text_at}
 use Rattle.cg_keys.specs.Table.{value_at}
 use Rattle.cg_keys.specs.Values.{members_of, text_in}
-use Rattle.cg_blkread.specs.Bits.{bit_number, bits_in, in_order, number_or_range, parts_at, range_in, up_to_31, width_of}
+use Rattle.cg_blkread.specs.Bits.{bit_number, bits_in, in_order, number_or_range, parts_at, range_in, up_to_31}
 use Rattle.cg_blkread.specs.Described.{field_desc, field_part, no_bits}
 use Rattle.cg_blkread.specs.Raw.{Shared, filled_name, raw_field, raw_fields}
 use Rattle.cg_blkread.specs.Values.{is_too_wide, overlap, shares_bit}
@@ -39,10 +39,10 @@ unfolding up_to_31
 up_to_31_small sum [] n small h = let same : sum ≡ n = cc in omega arith
 up_to_31_small sum (c ∷ cs) n small h =
     by (is_digit c && nat_le (sum * 10 + (c - 48)) 31) refl h (λ (within : sum * 10 + (c - 48) ≤ 31) later. up_to_31_small (sum * 10 + (c - 48)) cs n within later) where
-  by : (b : Bool) → (is_digit c && nat_le (sum * 10 + (c - 48)) 31) ≡ b → cond b (up_to_31 (sum * 10 + (c - 48)) cs) None ≡ Some n
-      → (sum * 10 + (c - 48) ≤ 31 → up_to_31 (sum * 10 + (c - 48)) cs ≡ Some n → n ≤ 31) → n ≤ 31
-  by true e is step = let within : sum * 10 + (c - 48) ≤ 31 = grind (arith, nat_tests) in step within is
-  by false e is step = cc
+      by : (b : Bool) → (is_digit c && nat_le (sum * 10 + (c - 48)) 31) ≡ b → cond b (up_to_31 (sum * 10 + (c - 48)) cs) None ≡ Some n
+          → (sum * 10 + (c - 48) ≤ 31 → up_to_31 (sum * 10 + (c - 48)) cs ≡ Some n → n ≤ 31) → n ≤ 31
+      by true e is step = let within : sum * 10 + (c - 48) ≤ 31 = grind (arith, nat_tests) in step within is
+      by false e is step = cc
 
 bit_number_small : (s : List ℕ) (n : ℕ) → bit_number s ≡ Some n → n ≤ 31
 unfolding bit_number
@@ -60,17 +60,17 @@ range_good : (s : List ℕ) (b : Bits) → range_in s ≡ Some b → AreGood b
 unfolding range_in
 range_good s b h =
     option_and_then_some (parts_at s) (position (λ c. c == 58) s) b h (λ colon found is.
-      option_and_then_some (λ msb. option_and_then (in_order msb) (bit_number (drop (colon + 1) s))) (bit_number (take colon s)) b is (λ msb high rest.
-        option_and_then_some (in_order msb) (bit_number (drop (colon + 1) s)) b rest (λ lsb low ordered.
-          in_order_good msb lsb b (bit_number_small (take colon s) msb high) ordered)))
+    option_and_then_some (λ msb. option_and_then (in_order msb) (bit_number (drop (colon + 1) s))) (bit_number (take colon s)) b is (λ msb high rest.
+    option_and_then_some (in_order msb) (bit_number (drop (colon + 1) s)) b rest (λ lsb low ordered.
+    in_order_good msb lsb b (bit_number_small (take colon s) msb high) ordered)))
 
 within_small : (t : Tree) (n : ℕ) → number_within 0 31 t ≡ Some n → n ≤ 31
 unfolding number_within
 within_small t n h = option_and_then_some (if_within 0 31) (number_in t) n h (λ m found is.
-      let parts = cond_some (nat_le 0 m && nat_le m 31) m n is in
-      let passes : (nat_le 0 m && nat_le m 31) ≡ true = parts.0 in
-      let small : m ≤ 31 = grind (arith, nat_tests) in
-      subst (λ k. k ≤ 31) parts.1 small)
+    let parts = cond_some (nat_le 0 m && nat_le m 31) m n is in
+    let passes : (nat_le 0 m && nat_le m 31) ≡ true = parts.0 in
+    let small : m ≤ 31 = grind (arith, nat_tests) in
+    subst (λ k. k ≤ 31) parts.1 small)
 
 pub bits_good : (t : Tree) (b : Bits) → bits_in t ≡ Some b → AreGood b
 unfolding bits_in
@@ -120,9 +120,9 @@ bits_if_any (Some t) = by (bits_in t) refl where
 field_written : (shared : Shared) (number : ℕ) (t : Tree) → NamesFit t → IsWord shared.name → Written (raw_field shared number t)
 unfolding raw_field
 field_written shared number t own word = record {
-    name = filled_is_word (text_at (codes "name") (members_of t)) shared.name shared.sole number own word;
-    bits = bits_if_any (value_at (codes "bits") (members_of t));
-  }
+  name = filled_is_word (text_at (codes "name") (members_of t)) shared.name shared.sole number own word;
+  bits = bits_if_any (value_at (codes "bits") (members_of t));
+}
 
 pub fields_written : (shared : Shared) (number : ℕ) (ts : List Tree) → AllOf NamesFit ts → IsWord shared.name → AllOf Written (raw_fields shared number ts)
 fields_written shared number [] own word = tt
@@ -133,9 +133,14 @@ abbrev described_with : Option ℕ → RawField → Option Bits → FieldDesc
 described_with register f o =
     let bits = unwrap_or o no_bits in
     record {
-      name = f.name; msb = bits.msb; lsb = bits.lsb; sw = f.sw; hw = f.hw;
+      name = f.name;
+      msb = bits.msb;
+      lsb = bits.lsb;
+      sw = f.sw;
+      hw = f.hw;
       resval = unwrap_or f.resval (option_map_or (λ v. field_part v bits) register 0);
-      mubi = f.mubi; at = f.at;
+      mubi = f.mubi;
+      at = f.at;
     }
 
 resval_fits : (b : Bits) (own register : Option ℕ) → AreGood b → is_too_wide (Some b) own ≡ false
@@ -144,21 +149,21 @@ resval_fits b own register good fits =
     let ordered : b.lsb ≤ b.msb = good.0 in
     let width : b.msb - b.lsb + 1 ≡ suc b.msb - b.lsb = omega arith in
     subst (λ w. unwrap_or own (option_map_or (λ v. field_part v b) register 0) < 2 ^ w) width (by own register fits) where
-  by : (own register : Option ℕ) → is_too_wide (Some b) own ≡ false
-      → unwrap_or own (option_map_or (λ v. field_part v b) register 0) < 2 ^ (b.msb - b.lsb + 1)
-  by (Some v) register fits = grind (arith, nat_tests)
-  by None (Some v) fits = mod-lt (v / 2 ^ b.lsb) (pow_pos (b.msb - b.lsb + 1))
-  by None None fits = pow_pos (b.msb - b.lsb + 1)
+      by : (own register : Option ℕ) → is_too_wide (Some b) own ≡ false
+          → unwrap_or own (option_map_or (λ v. field_part v b) register 0) < 2 ^ (b.msb - b.lsb + 1)
+      by (Some v) register fits = grind (arith, nat_tests)
+      by None (Some v) fits = mod-lt (v / 2 ^ b.lsb) (pow_pos (b.msb - b.lsb + 1))
+      by None None fits = pow_pos (b.msb - b.lsb + 1)
 
 with_bits_fits : (register : Option ℕ) (f : RawField) (o : Option Bits) → IsWord f.name → HasGoodBits o → is_too_wide o f.resval ≡ false
     → FieldFits (described_with register f o)
 with_bits_fits register f None name good fits = absurd good
 with_bits_fits register f (Some b) name good fits = record {
-    name = name;
-    ordered = good.0;
-    within = good.1;
-    resval = resval_fits b f.resval register good fits;
-  }
+  name = name;
+  ordered = good.0;
+  within = good.1;
+  resval = resval_fits b f.resval register good fits;
+}
 
 -- a field of which nothing is found
 pub record IsSound (f : RawField) : Type 0 where
@@ -189,8 +194,7 @@ none_overlaps before [] h = (tt, tt)
 none_overlaps before (f ∷ fs) h =
     let parts = empty_parts (overlap before f) (each_after overlap (before ++ f ∷ []) fs) h in
     let later = none_overlaps (before ++ f ∷ []) fs parts.1 in
-    let here : AllOf (λ (b : RawField). shares_bit b.bits f.bits ≡ false) before = none_passes (λ b. shares_bit b.bits f.bits) before (empty_when _ _ parts.0) in
-    (
+    let here : AllOf (λ (b : RawField). shares_bit b.bits f.bits ≡ false) before = none_passes (λ b. shares_bit b.bits f.bits) before (empty_when _ _ parts.0) in (
       (here, all_from _ (λ g. AllOf (λ b. shares_bit b.bits g.bits ≡ false) before) fs (λ g all. (all_parts _ before f all).0) later.0),
       (all_from _ (λ g. shares_bit f.bits g.bits ≡ false) fs (λ g all. (all_parts _ before f all).1) later.0, later.1),
     )

@@ -1,4 +1,4 @@
-use Rattle.std.proofs.Common.{ℕ, List, map, codes, not, sym, ap, ◌∙◌}
+use Rattle.std.proofs.Common.{ℕ, List, map, codes, not, ap, ◌∙◌}
 use Rattle.cg_desc.specs.declared.block.BlockDesc.{BlockDesc}
 use Rattle.cg_hjson.specs.declared.tree.Member.{Member}
 use Rattle.cg_hjson.specs.declared.tree.Tree.{Tree}
@@ -12,20 +12,20 @@ use Rattle.cg_blkread.proofs.described.describe_block.Goals as goal
 -- the description of a block with these members
 abbrev block_with : ℕ → Tree → List Member → BlockDesc
 block_with file t ms = record {
-    file = file;
-    name = text_or_empty (text_at (codes "name") ms);
-    clocking = map clock_desc (elements (codes "clocking") ms);
-    faces = map (face_desc ms) (devices ms);
-    hosts = map (λ h. record { name = interface_name h }) (hosts ms);
-    intrs = map interrupt_desc (elements (codes "interrupt_list") ms);
-    intrs_at = place_at (codes "interrupt_list") ms t.at;
-    alerts = map alert_desc (elements (codes "alert_list") ms);
-    alerts_at = place_at (codes "alert_list") ms t.at;
-    auto_intr = not (is_true (codes "no_auto_intr_regs") ms);
-    auto_alert = not (is_true (codes "no_auto_alert_regs") ms);
-    ios = pins_of ms;
-    at = place_at (codes "registers") ms t.at;
-  }
+  file = file;
+  name = text_or_empty (text_at (codes "name") ms);
+  clocking = map clock_desc (elements (codes "clocking") ms);
+  faces = map (face_desc ms) (devices ms);
+  hosts = map (λ h. record { name = interface_name h }) (hosts ms);
+  intrs = map interrupt_desc (elements (codes "interrupt_list") ms);
+  intrs_at = place_at (codes "interrupt_list") ms t.at;
+  alerts = map alert_desc (elements (codes "alert_list") ms);
+  alerts_at = place_at (codes "alert_list") ms t.at;
+  auto_intr = not (is_true (codes "no_auto_intr_regs") ms);
+  auto_alert = not (is_true (codes "no_auto_alert_regs") ms);
+  ios = pins_of ms;
+  at = place_at (codes "registers") ms t.at;
+}
 
 pub returns : goal.returns
 unfolding block_of

@@ -8,14 +8,14 @@ use Rattle.cg_blkread.proofs.described_interfaces.describe_devices.Goals as goal
 pub loop-interface-preserved-then-not-is_device : goal.loop-interface-preserved-then-not-is_device
 loop-interface-preserved-then-not-is_device c =
     passed (face_desc c.args.block.now) is_device c.elements-interface-items.result.now c.loop-interface.interface-index c.interface-item.result _ c.loop-interface.faces
-      c.loop-interface-test.true c.interface-item.is (sym c.is_device.ensures ∙ c.if-not-is_device.true)
+    c.loop-interface-test.true c.interface-item.is (sym c.is_device.ensures ∙ c.if-not-is_device.true)
     ∙ c.loop-interface.invariant
 
 pub loop-interface-preserved : goal.loop-interface-preserved
 loop-interface-preserved c =
     taken (face_desc c.args.block.now) is_device c.elements-interface-items.result.now c.loop-interface.interface-index c.interface-item.result _ c.loop-interface.faces c.push.new.self
-      c.in_ok-describe_device.field-0 c.loop-interface-test.true c.interface-item.is (sym c.is_device.ensures ∙ c.if-not-is_device.false)
-      c.in_ok-describe_device.ensures c.in_ok-push.ensures.ok
+    c.in_ok-describe_device.field-0 c.loop-interface-test.true c.interface-item.is (sym c.is_device.ensures ∙ c.if-not-is_device.false)
+    c.in_ok-describe_device.ensures c.in_ok-push.ensures.ok
     ∙ c.loop-interface.invariant
 
 pub returns : goal.returns

@@ -1,4 +1,3 @@
-use Rattle.std.proofs.Common.{◌≡◌, refl, sym, ap, ◌∙◌}
 use Rattle.std.proofs.lemmas.List.{append_assoc}
 use Rattle.cg_blkread.specs.Described.{pins_of}
 use Rattle.cg_blkread.proofs.described_lists.describe_pins.Goals as goal

@@ -1,6 +1,6 @@
 use Rattle.std.proofs.Common.{◌≡◌, [], ◌∷◌, ◌++◌, List, map, ap, sym, ◌∙◌}
 use Rattle.std.proofs.lemmas.List.{map-append}
-use Rattle.cg_blkread.specs.Interfaces.{EntryList, first_members_after}
+use Rattle.cg_blkread.specs.Interfaces.{EntryList}
 use Rattle.cg_blkread.specs.Views.{list_of, member_list}
 use Rattle.cg_blkread.proofs.SeenKeys.{all_looked, passed, taken}
 use Rattle.cg_blkread.proofs.entry_lists.lists_of.Goals as goal

@@ -1,5 +1,5 @@
 use Rattle.std.proofs.Common.{ap, false, map, sym, ◌∙◌}
-use Rattle.cg_blkread.proofs.NameSets.{all_differ, fresh_name, now_first_nameless, meets, name_again, nameless_again, none_seen}
+use Rattle.cg_blkread.proofs.NameSets.{all_differ, fresh_name, now_first_nameless, meets, none_seen}
 use Rattle.cg_blkread.proofs.interfaces.has_same_names.Goals as goal
 
 pub loop-interface-init : goal.loop-interface-init

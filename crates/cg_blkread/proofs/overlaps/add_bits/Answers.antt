@@ -1,4 +1,4 @@
-use Rattle.std.proofs.Common.{◌≡◌, Bool, false, ◌||◌, Option, Some, List, sym, ap, ◌∙◌}
+use Rattle.std.proofs.Common.{false, ◌||◌, Option, List, sym, ap, ◌∙◌}
 use Rattle.std.specs.List.{list_any}
 use Rattle.std.specs.Option.{option_map_or}
 use Rattle.cg_blkread.specs.Seen.{are_same_bits}

@@ -1,4 +1,4 @@
-use Rattle.std.proofs.Common.{◌≡◌, List, take, sym, ap, refl, ◌∙◌}
+use Rattle.std.proofs.Common.{List, take, sym, ap, ◌∙◌}
 use Rattle.std.specs.List.{list_any}
 use Rattle.cg_finding.proofs.Firsts.{None-earlier}
 use Rattle.cg_finding.proofs.Loops.{no_more_after, one_more_after}

@@ -3,8 +3,7 @@ use Rattle.std.specs.List.{flat_map}
 use Rattle.cg_keys.specs.Values.{items_of}
 use Rattle.cg_blkread.specs.Views.{list_of}
 use Rattle.cg_blkread.specs.Interfaces.{EntryList}
-use Rattle.cg_blkread.specs.Raw.{Parameter, raw_entry}
-use Rattle.cg_blkread.specs.declared.raw.RawEntry.{RawEntry}
+use Rattle.cg_blkread.specs.Raw.{raw_entry}
 use Rattle.cg_blkread.proofs.read_entries.read_lists.Given as goal
 
 -- the entries so far and those of the lists that are left are all

@@ -1,12 +1,17 @@
-use Rattle.std.proofs.Common.{◌≡◌, Option, Some, None, sym, ap, ◌∙◌, subst}
+use Rattle.std.proofs.Common.{◌≡◌, Some, None, sym, ap, ◌∙◌, subst}
 use Rattle.cg_desc.specs.Valid.{IsValidBlock}
-use Rattle.cg_finding.specs.Finding.{Finding, first_of}
+use Rattle.cg_finding.specs.Finding.{first_of}
 use Rattle.cg_finding.specs.Found.{sees, seen}
 use Rattle.cg_blkread.specs.Keys.{key_faults}
 use Rattle.cg_blkread.specs.Reads.{value_faults}
-use Rattle.cg_blkread.proofs.FirstBroken.{none_broken, refused_by_values, values_first}
+use Rattle.cg_blkread.proofs.FirstBroken.{none_broken, refused_by_keys, refused_by_values, values_first}
 use Rattle.cg_blkread.proofs.Sound.Block.{valid_block}
 use Rattle.cg_blkread.proofs.reading.block.Goals as goal
+
+pub returns-in-Some-clause-reads : goal.returns-in-Some-clause-reads
+returns-in-Some-clause-reads c =
+    let keys : first_of (key_faults c.args.tree.now) ≡ Some (seen c.in-Some.found) = sym c.in_ok-found.ensures ∙ ap sees c.in-Some.is in
+    refused_by_keys c.refusal.result c.args.file c.args.tree.now (seen c.in-Some.found) keys (c.refusal.ensures.refuses (key_faults c.args.tree.now) keys)
 
 pub returns-in-Some-2-clause-reads : goal.returns-in-Some-2-clause-reads
 returns-in-Some-2-clause-reads c =

@@ -1,4 +1,4 @@
-use Rattle.std.proofs.Common.{◌≡◌, ℕ, ◌+◌, ◌<◌, ◌≤◌, Bool, true, false, cond, is_some, List, [], ◌∷◌, map, length, get_or, drop, drop-cons, add-one, suc, Option, Some, None, refl, sym, ap, ◌∙◌, subst, Bor}
+use Rattle.std.proofs.Common.{◌≡◌, ℕ, ◌+◌, ◌<◌, Bool, true, false, cond, is_some, List, [], ◌∷◌, map, length, get_or, drop, drop-cons, add-one, suc, Option, Some, None, refl, sym, ap, ◌∙◌, Bor}
 use Rattle.std.proofs.lemmas.List.{drop_all}
 use Rattle.std.proofs.lemmas.Map.Text.{hash_map_updates_str}
 use Rattle.std.proofs.lemmas.Slice.Eq.{bytes_eq-Decides}
@@ -6,7 +6,7 @@ use Rattle.std.specs.HashMap.{HashMap, get_by}
 use Rattle.std.specs.Option.{unwrap_or}
 use Rattle.std.specs.Str.{bytes_eq}
 use Rattle.cg_hjson.specs.declared.tree.Tree.{Tree}
-use Rattle.cg_blkread.specs.Raw.{Parameter, parameter_number, parameter_of, parameters}
+use Rattle.cg_blkread.specs.Raw.{parameter_number, parameter_of, parameters}
 use Rattle.cg_blkread.proofs.parameters.Parameters.of.Goals as goal
 
 -- what a table of numbers has at a name
