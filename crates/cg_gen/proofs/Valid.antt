@@ -1,6 +1,6 @@
 -- Where no rule is broken, a description and its items are valid.
-use Rattle.std.proofs.Common.{◌≡◌, ◌⊎◌, ℕ, ◌<◌, ◌≤◌, List, [], ◌∷◌, Option, None, length, sum_by, refl, ap, ◌∙◌, inl, inr, arith}
-use Rattle.std.proofs.lemmas.Nat.{lt_or_le}
+use Rattle.std.proofs.Common.{◌≡◌, ℕ, ◌<◌, ◌≤◌, Bool, true, false, nat_lt, List, [], ◌∷◌, Option, None, length, sum_by, refl, ap, ◌∙◌, inl, arith}
+use Rattle.std.proofs.lemmas.Bool.Decides.{nat_tests}
 use Rattle.cg_svspec.specs.Printable.{AllOf}
 use Rattle.cg_desc.specs.Items.{items_of_block}
 use Rattle.cg_desc.specs.Valid.{IsValidBlock, IsValidItem}
@@ -25,12 +25,15 @@ described_is_valid file t none =
     let both = neither_phase (key_faults t) (value_faults t) none in
     valid_block file t (ap first_of both.0 ∙ first_of-empty) (ap first_of both.1 ∙ first_of-empty)
 
-few_by : (most n : ℕ) → ¬ (most < n) → (most < n) ⊎ (n ≤ most) → n ≤ most
-few_by most n none (inl many) = absurd (none many)
-few_by most n none (inr few) = few
+few_by : (most n : ℕ) (b : Bool) → nat_lt most n ≡ b → ¬ (most < n) → n ≤ most
+few_by most n true e none = let many : most < n = grind (arith, nat_tests) in absurd (none many)
+few_by most n false e none = grind (arith, nat_tests)
+
+few : (most n : ℕ) → ¬ (most < n) → n ≤ most
+few most n none = few_by most n (nat_lt most n) refl none
 
 pub items_are_valid : (b : BlockDesc) → IsValidBlock b → ((f : Finding) → ¬ BreaksNamesOrCounts b f) → AllOf (λ face. AllOf IsValidItem face.items) (items_of_block b)
 unfolding interrupt_bits
 items_are_valid b valid none =
-    block_valid b valid (few_by 32 (interrupt_bits b) (λ many. none (finding 4 42 b.intrs_at []) (interrupts many)) (lt_or_le 32 (interrupt_bits b)))
-    (few_by 32 (length b.alerts) (λ many. none (finding 4 42 b.alerts_at []) (alerts many)) (lt_or_le 32 (length b.alerts)))
+    block_valid b valid (few 32 (interrupt_bits b) (λ many. none (finding 4 42 b.intrs_at []) (interrupts many)))
+    (few 32 (length b.alerts) (λ many. none (finding 4 42 b.alerts_at []) (alerts many)))
