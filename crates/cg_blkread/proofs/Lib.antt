@@ -1,0 +1,8 @@
+mod FieldOrder
+mod FirstBroken
+mod MoreKeys
+mod NameSets
+mod Picked
+mod SeenBits
+mod SeenKeys
+pub mod Sound

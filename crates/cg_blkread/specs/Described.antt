@@ -44,9 +44,14 @@ unfoldable pub field_desc : Option ℕ → RawField → FieldDesc
 field_desc register_resval f =
     let bits = unwrap_or f.bits no_bits in
     record {
-      name = f.name; msb = bits.msb; lsb = bits.lsb; sw = f.sw; hw = f.hw;
+      name = f.name;
+      msb = bits.msb;
+      lsb = bits.lsb;
+      sw = f.sw;
+      hw = f.hw;
       resval = unwrap_or f.resval (option_map_or (λ v. field_part v bits) register_resval 0);
-      mubi = f.mubi; at = f.at;
+      mubi = f.mubi;
+      at = f.at;
     }
 
 -- the field in front of the first one that begins above it
@@ -63,10 +68,15 @@ in_bit_order (f ∷ fs) = put_field f (in_bit_order fs)
 
 unfoldable pub register_desc : RawRegister → RegDesc
 register_desc r = record {
-    name = r.name;
-    fields = in_bit_order (map (field_desc r.resval) r.fields);
-    regwen = r.regwen; regwen_at = r.regwen_at; hwext = r.hwext; hwqe = r.hwqe; hwre = r.hwre; at = r.at;
-  }
+  name = r.name;
+  fields = in_bit_order (map (field_desc r.resval) r.fields);
+  regwen = r.regwen;
+  regwen_at = r.regwen_at;
+  hwext = r.hwext;
+  hwqe = r.hwqe;
+  hwre = r.hwre;
+  at = r.at;
+}
 
 unfoldable pub written_entry : RawEntry → Written
 written_entry (entry.Register r) = written.Reg (register_desc r)
@@ -98,10 +108,10 @@ entries_in ps (Some t) = map (λ e. written_entry (raw_entry ps e)) (items_of t)
 
 unfoldable pub face_desc : List Member → Tree → FaceDesc
 face_desc ms d = record {
-    name = interface_name d;
-    entries = entries_in (parameters ms) (entry_list_of ms d);
-    at = option_map_or (λ t. t.at) (entry_list_of ms d) d.at;
-  }
+  name = interface_name d;
+  entries = entries_in (parameters ms) (entry_list_of ms d);
+  at = option_map_or (λ t. t.at) (entry_list_of ms d) d.at;
+}
 
 -- ---- the block
 
@@ -110,21 +120,21 @@ clock_desc t = record { clock = text_or_empty (text_at (codes "clock") (members_
 
 unfoldable pub interrupt_desc : Tree → IntrDesc
 interrupt_desc t = record {
-    name = text_or_empty (text_at (codes "name") (members_of t));
-    width = unwrap_or (number_at 0 4294967295 (codes "width") (members_of t)) 1;
-    status = option_map_or (bytes_eq (codes "status")) (text_at (codes "type") (members_of t)) false;
-    at = place_at (codes "name") (members_of t) t.at;
-  }
+  name = text_or_empty (text_at (codes "name") (members_of t));
+  width = unwrap_or (number_at 0 4294967295 (codes "width") (members_of t)) 1;
+  status = option_map_or (bytes_eq (codes "status")) (text_at (codes "type") (members_of t)) false;
+  at = place_at (codes "name") (members_of t) t.at;
+}
 
 unfoldable pub alert_desc : Tree → AlertDesc
 alert_desc t = record { name = text_or_empty (text_at (codes "name") (members_of t)); at = place_at (codes "name") (members_of t) t.at }
 
 unfoldable pub pin_desc : IoDir → Tree → IoDesc
 pin_desc dir t = record {
-    name = text_or_empty (text_at (codes "name") (members_of t));
-    width = unwrap_or (number_at 0 4294967295 (codes "width") (members_of t)) 1;
-    dir = dir;
-  }
+  name = text_or_empty (text_at (codes "name") (members_of t));
+  width = unwrap_or (number_at 0 4294967295 (codes "width") (members_of t)) 1;
+  dir = dir;
+}
 
 -- inputs, then outputs, then those that are both
 unfoldable pub pins_of : List Member → List IoDesc

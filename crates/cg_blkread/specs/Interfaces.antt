@@ -12,7 +12,7 @@ use Rattle.cg_keys.specs.Table.{value_at}
 use Rattle.cg_keys.specs.Elements.{elements}
 use Rattle.cg_keys.specs.Lookups.{text_at, is_fit_at}
 use Rattle.cg_keys.specs.declared.forms.Form.TheVariants.{Name, Word}
-use Rattle.cg_keys.specs.declared.forms.Words.TheVariants.{Direction}
+use Rattle.cg_keys.specs.declared.words.Words.TheVariants.{Direction}
 
 -- ---- the interfaces
 
@@ -127,7 +127,7 @@ has_stray_entries ds t (Some ms) = list_any (λ m. not (names_device ds m.key) &
 unfoldable pub shape_faults : List Member → List Finding
 shape_faults ms = option_map_or (λ t.
     cond ((is_some (array_in t) && not (asks_for_list (devices ms))) || ((is_some (object_in t) && asks_for_list (devices ms)) || has_stray_entries (devices ms) t (object_in t)))
-      (finding 2 22 t.at (codes "registers") ∷ []) []) (value_at (codes "registers") ms) []
+    (finding 2 22 t.at (codes "registers") ∷ []) []) (value_at (codes "registers") ms) []
 
 abbrev pub missing_list : At → List Member → Option (List ℕ) → List Finding
 missing_list opener ms None = []

@@ -60,7 +60,7 @@ has_other_kind (Some k) = not (takes_mubi k)
 unfoldable pub mubi_outside : List Member → List Member → List Finding
 mubi_outside register field =
     cond (has_other_width (option_and_then bits_in (value_at (codes "bits") field)) || has_other_kind (kind_that_counts register field))
-      (outside_if_true field (codes "mubi")) []
+    (outside_if_true field (codes "mubi")) []
 
 -- `fields` is a list of objects
 unfoldable pub fields_are_objects : List Member → Bool
@@ -70,8 +70,8 @@ fields_are_objects ms = option_map_or (λ t. option_map_or (list_all (fits Objec
 unfoldable pub compact_outside : List Member → List Finding
 compact_outside ms =
     cond (fields_are_objects ms && (is_fit_at (Boolean ∷ []) (codes "regwen_multi") ms
-        && (nat_lt 1 (length (elements (codes "fields") ms)) || unwrap_or (boolean_at (codes "regwen_multi") ms) false)))
-      (outside_if_true ms (codes "compact")) []
+    && (nat_lt 1 (length (elements (codes "fields") ms)) || unwrap_or (boolean_at (codes "regwen_multi") ms) false)))
+    (outside_if_true ms (codes "compact")) []
 
 -- registers have 32 bits
 unfoldable pub width_outside : List Member → List Finding

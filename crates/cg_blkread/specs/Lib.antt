@@ -3,6 +3,9 @@ pub mod Bits
 pub mod Interfaces
 pub mod Keys
 pub mod Raw
+pub mod Shared
+pub mod Seen
 pub mod Values
 pub mod Described
 pub mod Reads
+pub mod Views

@@ -77,7 +77,7 @@ register_reset ms = boolean_or_number false (boolean_at (codes "resval") ms) (nu
 unfoldable pub field_reset : Bool → List Member → Option ℕ
 field_reset mubi ms =
     cond (option_map_or (bytes_eq (codes "x")) (text_at (codes "resval") ms) false) (Some 0)
-      (boolean_or_number mubi (boolean_at (codes "resval") ms) (number_at 0 4294967295 (codes "resval") ms))
+    (boolean_or_number mubi (boolean_at (codes "resval") ms) (number_at 0 4294967295 (codes "resval") ms))
 
 -- what a field takes from its register
 pub record Shared : Type 0 where
@@ -110,11 +110,11 @@ raw_fields shared number (t ∷ ts) = raw_field shared number t ∷ raw_fields s
 
 unfoldable pub shared_of : List Member → Shared
 shared_of ms = record {
-    name = text_or_empty (text_at (codes "name") ms);
-    sw = unwrap_or (software_at (codes "swaccess") ms) software.Nothing;
-    hw = unwrap_or (hardware_at (codes "hwaccess") ms) hardware.Hro;
-    sole = length (elements (codes "fields") ms) == 1;
-  }
+  name = text_or_empty (text_at (codes "name") ms);
+  sw = unwrap_or (software_at (codes "swaccess") ms) software.Nothing;
+  hw = unwrap_or (hardware_at (codes "hwaccess") ms) hardware.Hro;
+  sole = length (elements (codes "fields") ms) == 1;
+}
 
 unfoldable pub raw_register : Tree → RawRegister
 raw_register t =

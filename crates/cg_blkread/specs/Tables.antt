@@ -3,7 +3,7 @@ use Rattle.std.specs.Prelude.{ℕ, ◌++◌, List, [], ◌∷◌, codes}
 use Rattle.cg_keys.specs.Table.{Key, needs, may}
 use Rattle.cg_keys.specs.declared.forms.Form.{Form}
 use Rattle.cg_keys.specs.declared.forms.Form.TheVariants.{Text, Name, ParameterName, Number, Boolean, Items, Object, Word}
-use Rattle.cg_keys.specs.declared.forms.Words.TheVariants.{Software, Hardware, WindowAccess, Direction, InterruptType, Unknown}
+use Rattle.cg_keys.specs.declared.words.Words.TheVariants.{Software, Hardware, WindowAccess, Direction, InterruptType, Unknown}
 
 -- a number of 32 bits
 abbrev pub word_number : Form

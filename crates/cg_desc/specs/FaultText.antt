@@ -1,6 +1,5 @@
 -- The line of a fault.
-use Rattle.std.specs.Prelude.{◌==◌, ℕ, List, [], ◌∷◌, ◌++◌, Option, Bool, IsTrue, codes, find, unwrap_or}
-use Rattle.std.specs.List.{list_any}
+use Rattle.std.specs.Prelude.{◌==◌, ℕ, List, [], ◌∷◌, ◌++◌, Option, codes, find, unwrap_or}
 use Rattle.std.specs.Option.{option_map}
 use Rattle.std.specs.Fmt.{decimal}
 use Rattle.cg_desc.specs.declared.place.At.{At}
@@ -53,14 +52,6 @@ phrases =
 -- what a line says of a rule
 unfoldable pub phrase_of : ℕ → Option (List ℕ)
 phrase_of rule = option_map (λ row. row.1) (find (λ row. row.0 == rule) phrases)
-
--- whether a number is that of a rule of the table
-abbrev pub is_rule : ℕ → Bool
-is_rule rule = list_any (λ row. row.0 == rule) phrases
-
--- the number is that of a rule of the table
-abbrev pub IsRule : ℕ → Type 0
-IsRule rule = IsTrue (is_rule rule)
 
 -- `<file>:<line>:<column>: fault <rule>: <phrase>`
 abbrev pub line_head : List ℕ → At → ℕ → List ℕ → List ℕ

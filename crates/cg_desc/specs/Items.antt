@@ -86,11 +86,15 @@ word_count m = (m.count + (copies_per_word m - 1)) / copies_per_word m
 -- the fields of copy k, which stands at this place of its word
 unfoldable pub copy_fields : MultiDesc → ℕ → ℕ → List FieldDesc
 copy_fields m k place = map (λ f. record {
-    name = numbered f.name k;
-    msb = f.msb + copy_bits m.reg.fields * place;
-    lsb = f.lsb + copy_bits m.reg.fields * place;
-    sw = f.sw; hw = f.hw; resval = f.resval; mubi = f.mubi; at = f.at;
-  }) m.reg.fields
+  name = numbered f.name k;
+  msb = f.msb + copy_bits m.reg.fields * place;
+  lsb = f.lsb + copy_bits m.reg.fields * place;
+  sw = f.sw;
+  hw = f.hw;
+  resval = f.resval;
+  mubi = f.mubi;
+  at = f.at;
+}) m.reg.fields
 
 -- the copies of word j: from its first one up to a full word, or to the last copy
 unfoldable pub copies_in_word : MultiDesc → ℕ → ℕ
@@ -106,12 +110,15 @@ copy_gate m k = option_map (λ name. cond (m.regwen_multi && nat_lt 1 m.count) (
 -- word j of the copies, which has a number in its name where there is more than one word
 unfoldable pub multireg_word : MultiDesc → ℕ → RegDesc
 multireg_word m j = record {
-    name = cond (nat_lt 1 (word_count m)) (numbered m.reg.name j) m.reg.name;
-    fields = word_fields m j;
-    regwen = copy_gate m j;
-    regwen_at = m.reg.regwen_at;
-    hwext = m.reg.hwext; hwqe = m.reg.hwqe; hwre = m.reg.hwre; at = m.reg.at;
-  }
+  name = cond (nat_lt 1 (word_count m)) (numbered m.reg.name j) m.reg.name;
+  fields = word_fields m j;
+  regwen = copy_gate m j;
+  regwen_at = m.reg.regwen_at;
+  hwext = m.reg.hwext;
+  hwqe = m.reg.hwqe;
+  hwre = m.reg.hwre;
+  at = m.reg.at;
+}
 
 -- ---- entries and interfaces
 

@@ -1,5 +1,5 @@
 -- When a description, and when an item, is valid: what its maker promises and later layers rely on.
-use Rattle.std.specs.Prelude.{◌≡◌, ℕ, ◌^◌, ◌<◌, ◌≤◌, true, List, [], ◌∷◌, Option, Some, None}
+use Rattle.std.specs.Prelude.{◌≡◌, ℕ, ◌^◌, ◌<◌, ◌≤◌, true, List, [], ◌∷◌, length, Option, Some, None}
 use Rattle.cg_svspec.specs.Characters.{IsName, IsWord}
 use Rattle.cg_svspec.specs.Printable.{AllOf}
 use Rattle.cg_desc.specs.Laid.{FieldsFit, HasField, IsWindowAccess}
@@ -69,8 +69,15 @@ pub record IsValidInterface (f : FaceDesc) : Type 0 where
   pub name : IsNameIfAny f.name
   pub entries : AllOf IsValidEntry f.entries
 
+-- no two interfaces have one name, and no two have none
+abbrev pub InterfacesDiffer : List FaceDesc → Type 0
+InterfacesDiffer [] = Unit {0}
+InterfacesDiffer (f ∷ fs) = AllOf (λ g. ¬ (f.name ≡ g.name)) fs × InterfacesDiffer fs
+
 pub record IsValidBlock (b : BlockDesc) : Type 0 where
   pub name : IsName b.name
   pub interrupts : AllOf IsValidInterrupt b.intrs
   pub alerts : AllOf IsValidAlert b.alerts
   pub interfaces : AllOf IsValidInterface b.faces
+  pub few_interfaces : length b.faces ≤ 8
+  pub interfaces_differ : InterfacesDiffer b.faces

@@ -1,6 +1,6 @@
 ghost use Rattle.std.specs.Prelude.{◌≡◌, ◌==◌, [], IfOk, find, map, string_bytes, unwrap_or};
 ghost use Rattle.std.specs.Option.{option_copied};
-ghost use Rattle.cg_desc.specs.FaultText.{IsRule, fault_line, line_head, phrase_of, phrases};
+ghost use Rattle.cg_desc.specs.FaultText.{fault_line, line_head, phrase_of, phrases};
 
 use crate::{At, Fault};
 use cg_base::{Memory, Text};
@@ -79,9 +79,9 @@ fn head(alloc: Global, file: &str, at: At, rule: u8, phrase: &str) -> Result<Str
 }
 
 /// The line of a fault without its line feed: `<file>:<line>:<column>: fault <rule>: <phrase>`, and
-/// then `: <name>` where the name is not empty. `file` is the name of the fault's file.
+/// then `: <name>` where the name is not empty. `file` is the name of the fault's file. The phrase of a
+/// number that is no rule's is empty.
 pub fn fault_text(alloc: Global, fault: &Fault, file: &str) -> Result<Text, Memory>
-    requires { IsRule fault.now.rule }
     ensures { IfOk result (λ text. text ≡ fault_line file.now fault.now) }
 {
     let head = head(alloc, file, fault.at, fault.rule, phrase(fault.rule))?;

@@ -1,6 +1,6 @@
 -- The first of two lists of findings is the earlier of their firsts, and it is one that none of them is before.
 use Rattle.std.proofs.Common.{ℕ, ◌≡◌, Bool, true, false, cond, List, [], ◌∷◌, ◌++◌, Option, Some, None, inl, inr, refl, sym, ap, ◌∙◌, subst}
-use Rattle.std.specs.Ordering.{nat_cmp, ordering_then, ordering_reverse, on, is_gt}
+use Rattle.std.specs.Ordering.{nat_cmp, ordering_then, ordering_reverse, is_gt}
 use Rattle.std.specs.Cmp.{IsTotalOrder}
 use Rattle.std.specs.Cmp.Lexicographic.{slice_cmp}
 use Rattle.std.specs.declared.cmp.Ordering.{Ordering}

@@ -53,12 +53,12 @@ in_each_after g before (x ∷ xs) f among =
     elim (in_either f (g before x) (each_after g (before ++ x ∷ []) xs) among) [
       | inl here ↦ record { front = []; item = x; back = xs; splits = refl; found = subst (λ ys. In f (g ys x)) (sym (append-nil before)) here }
       | inr later ↦ let one = in_each_after g (before ++ x ∷ []) xs f later in record {
-          front = x ∷ one.front;
-          item = one.item;
-          back = one.back;
-          splits = ap (λ ys. x ∷ ys) one.splits;
-          found = subst (λ ys. In f (g ys one.item)) (append_assoc before (x ∷ []) one.front) one.found;
-        }
+        front = x ∷ one.front;
+        item = one.item;
+        back = one.back;
+        splits = ap (λ ys. x ∷ ys) one.splits;
+        found = subst (λ ys. In f (g ys one.item)) (append_assoc before (x ∷ []) one.front) one.found;
+      }
     ]
 
 pub each_after_has : {X : Type 0} (g : List X → X → List Finding) (before front back : List X) (x : X) (f : Finding)

@@ -1,13 +1,12 @@
 -- A number's spelling, as `parse` reads it.
-use Rattle.std.proofs.Common.{◌≡◌, ℕ, zero, suc, ◌+◌, ◌-◌, ◌*◌, ◌^◌, ◌<◌, ◌≤◌, ◌⊎◌, inl, inr, ℤ, pos, negsuc, neg_ℤ, ◌-ℤ◌, Bool, true, false, ◌&&◌, List, [], ◌∷◌, Option, Some, None, nat_lt, nat_eq, nat_le, length, drop, cond, arith, refl, sym, ap, ◌∙◌, IsTrue}
+use Rattle.std.proofs.Common.{◌≡◌, ℕ, zero, suc, ◌+◌, ◌-◌, ◌*◌, ◌^◌, ◌<◌, ◌≤◌, ◌⊎◌, inl, inr, pos, negsuc, neg_ℤ, ◌-ℤ◌, true, false, ◌&&◌, List, [], ◌∷◌, Option, Some, None, nat_lt, nat_eq, nat_le, length, arith, refl, sym, ap, ◌∙◌}
 use Rattle.std.specs.Prelude.{option_and_then, FitsSigned}
 use Rattle.std.specs.Char.{digit_value}
 use Rattle.std.specs.Str.Parse.{AllDigits, IsNumeral, digits_value_after, digits_value, without_leading_sign, signed_digits_value}
-use Rattle.std.proofs.lemmas.Bool.{cond_both, cases_Bool, cases_eq, ne_eqb, and_parts, and_from, le-leb, eqb-true}
+use Rattle.std.proofs.lemmas.Bool.{cond_both, cases_Bool, cases_eq, ne_eqb}
 use Rattle.std.proofs.lemmas.Bool.Decides.{nat_tests}
 use Rattle.std.proofs.lemmas.Int.{ints}
 use mir.Syntax.{w128}
-use Rattle.cg_docspec.specs.Characters.{is_digit}
 use Rattle.cg_docspec.specs.Machine.Numeral.{decimal, below_zero, above_zero, integer_value, is_number, is_unsigned}
 use Rattle.cg_hjson.specs.Integers.{in_range}
 

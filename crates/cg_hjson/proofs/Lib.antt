@@ -1,5 +1,10 @@
 pub mod Views
+pub mod SeenWhole
 pub mod FirstCharacter
 pub mod OneStep
 pub mod Answers
+pub mod Fits
 pub mod Integers
+pub mod Puts
+pub mod JsonParts
+pub mod JsonMembers

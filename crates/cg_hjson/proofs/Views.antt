@@ -1,5 +1,5 @@
 -- The view of a tree at each of its forms.
-use Rattle.std.proofs.Common.{◌≡◌, ℕ, ℤ, Bool, List, map, ◌∙◌, ap, sym}
+use Rattle.std.proofs.Common.{◌≡◌, ℕ, ℤ, Bool, List, ◌∙◌, ap, sym}
 use Rattle.cg_docspec.specs.Tree as document
 use Rattle.cg_desc.specs.declared.place.At.{At}
 use Rattle.cg_hjson.specs.Views.{member, place_of, kind_of, member_of, tree_of, trees_of, members_of, kind_level, member_level, tree_level}
@@ -7,8 +7,8 @@ use Rattle.cg_hjson.specs.declared.tree.Kind.{Kind, map-Kind, roll-Kind}
 use Rattle.cg_hjson.specs.declared.tree.Kind.TheFolds as folds
 use Rattle.cg_hjson.specs.declared.tree.Kind.TheOpen as level
 use Rattle.cg_hjson.specs.declared.tree.Kind.TheVariants as form
-use Rattle.cg_hjson.specs.declared.tree.Member.{Member, roll-Member}
-use Rattle.cg_hjson.specs.declared.tree.Tree.{Tree, roll-Tree}
+use Rattle.cg_hjson.specs.declared.tree.Member.{Member, roll-Member, out-Member, fold_out-Member}
+use Rattle.cg_hjson.specs.declared.tree.Tree.{Tree, roll-Tree, out-Tree, fold_out-Tree}
 
 -- the view of a kind goes down one level
 one_level : (x : level.Kind-F Kind Member Tree) → kind_of (roll-Kind x) ≡ kind_level (map-Kind Kind Member Tree document.Kind document.Member document.Tree kind_of member_of tree_of x)
@@ -48,3 +48,15 @@ of-Object ms = ap kind_of (sym (form.rolls-Object ms)) ∙ one_level (level.Obje
 
 -- all of these
 pub ruleset views = (of-Member, of-Tree, of-Null, of-Bool, of-Int, of-Str, of-Array, of-Object)
+
+-- what a value and a member stand for, by their parts
+pub tree-out : (t : Tree) → tree_of t ≡ document.tree (kind_of (out-Tree t).kind) (place_of (out-Tree t).at)
+unfolding kind_of member_of tree_of
+tree-out t = fold_out-Tree document.Kind document.Member document.Tree kind_level member_level tree_level t
+
+pub member-out : (m : Member) → member_of m ≡ member (out-Member m).key (place_of (out-Member m).key_at) (tree_of (out-Member m).value)
+unfolding kind_of member_of tree_of
+member-out m = fold_out-Member document.Kind document.Member document.Tree kind_level member_level tree_level m
+
+-- both of these
+pub ruleset parts = (tree-out, member-out)

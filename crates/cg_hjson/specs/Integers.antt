@@ -1,5 +1,5 @@
 -- The integers of documents.
-use Rattle.std.specs.Prelude.{ℕ, ℤ, pos, negsuc, ◌^◌, nat_lt, if◌then◌else◌, Option, Some, None}
+use Rattle.std.specs.Prelude.{ℤ, pos, negsuc, ◌^◌, nat_lt, if◌then◌else◌, Option, Some, None}
 
 -- the integer, if it is from -2^63 to 2^64 - 1; `negsuc n` is -(n + 1)
 abbrev pub in_range : ℤ → Option ℤ

@@ -1,13 +1,15 @@
-ghost use Rattle.std.specs.Prelude.{◌≡◌, ◌+◌, ◌≤◌, ◌<◌, ◌^◌, length};
+ghost use Rattle.std.specs.Prelude.{◌≡◌, ◌+◌, ◌≤◌, ◌<◌, ◌^◌, IfOk, length};
 ghost use Rattle.std.specs.Str.{chars};
 ghost use Rattle.cg_docspec.specs.Place.{next_place};
 ghost use Rattle.cg_docspec.specs.SyntaxFault.{Answer, IsAnswer};
 ghost use Rattle.cg_docspec.specs.Machine.Run.{answer, whole};
 ghost use Rattle.cg_docspec.specs.Machine.State.{start};
-ghost use Rattle.cg_hjson.specs.Views.{place_of};
+ghost use Rattle.cg_hjson.specs.Json.{IntegersFit};
+ghost use Rattle.cg_hjson.specs.Views.{place_of, tree_of};
 ghost use Rattle.cg_hjson.specs.Reading.{found_of, state_of};
 ghost use Rattle.cg_hjson.specs.Answers.{IsRight, Tells};
 
+use crate::place::{START, next_place};
 use crate::stack::Stack;
 use crate::state::{Awaited, Now, State, Stop};
 use crate::steps::step;
@@ -40,6 +42,7 @@ pub fn read(alloc: Global, text: &str) -> Result<Tree, HjsonFault>
     requires { length text.now ≤ 2 ^ 31 }
     ensures right { IsRight (chars text.now) result }
     ensures exact { (a : Answer) → IsAnswer (chars text.now) a → Tells a result }
+    ensures integers { IfOk result (λ tree. IntegersFit (tree_of tree)) }
 {
     run(alloc, text)
 }
@@ -49,11 +52,7 @@ fn run(alloc: Global, text: &str) -> Result<Tree, HjsonFault>
     requires { length text.now ≤ 2 ^ 31 }
     ensures { Tells (answer (chars text.now)) result }
 {
-    let mut at = At {
-        byte: 0,
-        line: 1,
-        column: 1,
-    };
+    let mut at = START;
     let mut state = start(alloc);
     for c in text.chars() {
         match step(alloc, at, state, c) {
@@ -95,27 +94,5 @@ fn whole(state: State) -> Option<Tree>
     match now {
         Now::Gap(Awaited::End) | Now::Comment(Awaited::End) => found,
         _ => None,
-    }
-}
-
-/// The place behind a character.
-fn next_place(at: At, c: char) -> At
-    requires byte { at.byte + 4 < 2 ^ 32 }
-    requires line { at.line + 1 < 2 ^ 32 }
-    requires column { at.column + 1 < 2 ^ 32 }
-    ensures { place_of result ≡ next_place (place_of at) c }
-{
-    if c == '\n' {
-        At {
-            byte: at.byte + 1,
-            line: at.line + 1,
-            column: 1,
-        }
-    } else {
-        At {
-            byte: at.byte + c.len_utf8() as u32,
-            line: at.line,
-            column: at.column + 1,
-        }
     }
 }

@@ -4,3 +4,4 @@ mod documents;
 mod faults;
 mod nesting;
 mod shown;
+mod values;

@@ -1,0 +1,4 @@
+pub mod Repeats
+pub mod NameTests
+pub mod DuplicateKeys
+pub mod Relation

@@ -52,7 +52,7 @@ is_word (c ∷ cs) = is_first c && list_all is_name_character cs
 
 -- a name of at most this many characters: a word that the grammar of hardware does not quote
 unfoldable pub is_name : ℕ → List ℕ → Bool
-is_name most s = is_word s && nat_le (length s) most && not (is_keyword s)
+is_name most s = is_word s && (nat_le (length s) most && not (is_keyword s))
 
 -- how software accesses a field, by its word
 unfoldable pub software : List ℕ → Option SwAccess

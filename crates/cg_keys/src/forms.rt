@@ -4,7 +4,6 @@ ghost use Rattle.std.specs.Prelude.{◌≡◌, ◌≤◌, false, IfSome};
 ghost use Rattle.std.specs.List.{list_any};
 ghost use Rattle.std.specs.Option.{option_map_or};
 ghost use Rattle.cg_keys.specs.Forms.{boolean_in, fits, fits_one, is_name, is_name_form, is_number_form, is_one_of, number_in, number_within, rule_broken, takes, truth};
-
 ghost use Rattle.cg_keys.specs.Values.{text_in};
 
 use crate::names::is_name;

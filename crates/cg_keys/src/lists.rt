@@ -65,7 +65,12 @@ pub fn first_in_elements<'a>(members: &[Member], key: &'a str) -> Option<Found<'
 
 /// Rule 22 at the list at a key, where it has fewer than `least` or more than `most` elements.
 #[tactic(auto, unfolding(crate::specs::Elements::length_faults), using(cg_finding::proofs::Firsts::firsts))]
-pub fn first_in_length<'a>(least: usize, most: usize, members: &[Member], key: &'a str) -> Option<Found<'a>>
+pub fn first_in_length<'a>(
+    least: usize,
+    most: usize,
+    members: &[Member],
+    key: &'a str,
+) -> Option<Found<'a>>
     ensures { sees result ≡ first_of (length_faults least most key.now members.now) }
 {
     let tree = value_at(members, key)?;

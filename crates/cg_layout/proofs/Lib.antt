@@ -1,0 +1,9 @@
+mod Lists
+mod Told
+mod Ends
+mod Gating
+mod Faces
+mod Laying
+mod Placing
+pub mod Once
+pub mod Whole

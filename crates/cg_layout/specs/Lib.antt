@@ -1,2 +1,4 @@
 pub mod Violations
 pub mod Lays
+pub mod Inner
+pub mod Example

@@ -8,6 +8,7 @@ fn documents_have_their_trees(rt: HostRuntime) -> Result<(), Fail> {
         ("{}", "{}"),
         (" \t\n\r\n{ } \n", "{}"),
         ("# x\r\n{}// x", "{}"),
+        ("{a:\r\n1\r\n,\tb:\t2 #\r\n}", "{a:1 b:2 }"),
         ("/* a * / ** b */{}/**/#", "{}"),
         ("{/*/*/}\n//\n/*\r\n\n*/", "{}"),
         // members and values, with and without commas
@@ -63,6 +64,10 @@ fn documents_have_their_trees(rt: HostRuntime) -> Result<(), Fail> {
             "{a:-9223372036854775808,b:-9223372036854775809}",
             "{a:-9223372036854775808 b:\"-9223372036854775809\" }",
         ),
+        (
+            "{a:-0.0,b:1e400,c:-1E-2}",
+            "{a:\"-0.0\" b:\"1e400\" c:\"-1E-2\" }",
+        ),
         ("{\na: 1 # c\n}", "{a:1 }"),
         ("{a:1// c\nb:2 /* c */c:true \t\r\n}", "{a:1 b:2 c:true }"),
         // unquoted strings
@@ -72,6 +77,7 @@ fn documents_have_their_trees(rt: HostRuntime) -> Result<(), Fail> {
             "{a: 01,\nb: +1\nc: 1.\nd: .5\ne: 1e\n}",
             "{a:\"01,\" b:\"+1\" c:\"1.\" d:\".5\" e:\"1e\" }",
         ),
+        ("{a: -\nb: -01\n}", "{a:\"-\" b:\"-01\" }"),
         (
             "{a: truex,\nb: True\nc: - 1\nd: 1 2,\n}",
             "{a:\"truex,\" b:\"True\" c:\"- 1\" d:\"1 2,\" }",

@@ -20,7 +20,9 @@ fn other_texts_have_their_first_fault(rt: HostRuntime) -> Result<(), Fail> {
         ("{a:}", "3 1 4"),
         ("{a::1}", "3 1 4"),
         ("{a:1,,}", "5 1 6"),
+        ("{\"a", "3 1 4"),
         ("{a:[}", "4 1 5"),
+        ("{a:[1,2", "7 1 8"),
         ("{a:[1}", "5 1 6"),
         ("{a:1]", "4 1 5"),
         ("{a:true]", "7 1 8"),
@@ -30,6 +32,8 @@ fn other_texts_have_their_first_fault(rt: HostRuntime) -> Result<(), Fail> {
         // unquoted strings run to the line's end
         ("{a: x}", "6 1 7"),
         ("{a:nul}", "7 1 8"),
+        ("{a:-", "4 1 5"),
+        ("{a:\u{feff}1}", "8 1 7"),
         ("{a:[x]}", "7 1 8"),
         ("{\n a: x\n", "8 3 1"),
         ("{é:é,", "7 1 6"),
@@ -48,6 +52,9 @@ fn other_texts_have_their_first_fault(rt: HostRuntime) -> Result<(), Fail> {
         // comments
         ("{} /x", "4 1 5"),
         ("{}/", "3 1 4"),
+        ("{}/\n", "3 1 4"),
+        ("{a:1\n/", "6 2 2"),
+        ("{a:1\n/}", "6 2 2"),
         ("{}/*", "4 1 5"),
         ("{}/*/", "5 1 6"),
         ("{# x", "4 1 5"),

@@ -1,10 +1,9 @@
-use Rattle.std.proofs.Common.{◌≡◌, ℕ, ◌+◌, ◌<◌, ◌≤◌, length, refl, sym, ◌∙◌, ap, subst, arith, List, [], ◌∷◌, Some, None}
-use Rattle.std.specs.Str.{chars, IsUtf8}
+use Rattle.std.proofs.Common.{◌≡◌, ◌<◌, ◌≤◌, length, refl, sym, ◌∙◌, ap, arith, []}
+use Rattle.std.specs.Str.{chars}
 use Rattle.std.specs.Str.Iter.{chars_rest}
 use Rattle.std.proofs.lemmas.List.{length-map}
 use Rattle.std.proofs.lemmas.Str.{len_utf8_bounds}
-use Rattle.cg_docspec.specs.Place.{origin, next_place}
-use Rattle.cg_docspec.specs.Machine.Run.{answer_from, step, whole}
+use Rattle.cg_docspec.specs.Machine.Run.{answer_from}
 use Rattle.cg_hjson.specs.Views.{place_of}
 use Rattle.cg_hjson.specs.Reading.{frame_of, frames_of, found_of, state_of}
 use Rattle.cg_hjson.proofs.FirstCharacter.{first_character, no_characters}

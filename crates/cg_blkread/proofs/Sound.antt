@@ -1,0 +1,12 @@
+pub mod Block
+pub mod Empty
+pub mod Entries
+pub mod EntryNames
+pub mod Faces
+pub mod Fields
+pub mod Forms
+pub mod Keys
+pub mod Objects
+pub mod RawFields
+pub mod Values
+pub mod Words

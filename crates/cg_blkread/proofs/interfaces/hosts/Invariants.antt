@@ -1,0 +1,10 @@
+use Rattle.std.proofs.Common.{◌≡◌, ◌++◌, drop, map}
+use Rattle.std.specs.List.{filter}
+use Rattle.cg_blkread.specs.Interfaces.{is_host}
+use Rattle.cg_blkread.proofs.interfaces.hosts.Given as goal
+
+-- those found, and those among the interfaces that are left
+abbrev pub invariant-loop-interface : goal.invariant-loop-interface
+invariant-loop-interface l =
+    map (λ t. t.now) l.found.items ++ filter is_host (drop l.interface-index l.interface-items)
+    ≡ filter is_host l.interface-items

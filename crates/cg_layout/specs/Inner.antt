@@ -1,0 +1,4 @@
+pub mod Told
+pub mod Extents
+pub mod Gates
+pub mod Faces
