@@ -1,5 +1,5 @@
 -- What is found before and after the items are made is what a block breaks.
-use Rattle.std.proofs.Common.{ℕ, ◌≡◌, nat_lt, Bool, true, false, ◌&&◌, ◌⊎◌, cond, List, [], ◌∷◌, ◌++◌, length, inl, inr, refl, sym, subst}
+use Rattle.std.proofs.Common.{◌≡◌, nat_lt, Bool, true, false, ◌&&◌, ◌⊎◌, List, [], ◌∷◌, ◌++◌, length, inl, inr, refl, sym, subst}
 use Rattle.std.specs.List.{flat_map}
 use Rattle.std.proofs.lemmas.Bool.{and_from, and_parts}
 use Rattle.cg_desc.specs.declared.place.At.{At}
@@ -11,8 +11,7 @@ use Rattle.cg_finding.proofs.Members.{in_either, in_left, in_right}
 use Rattle.cg_expand.specs.Violations.{Named, Violates, interrupt_bits}
 use Rattle.cg_expand.specs.Parts.Automatic.{automatic_with, has_room}
 use Rattle.cg_expand.specs.Parts.Faults.{alert_faults, bits_faults, early_faults, fields_twice, interrupt_faults, late_faults, list_faults, none_known, size_faults}
-use Rattle.cg_expand.specs.Parts.Labels.{alert_label, interrupt_label, labels_twice}
-use Rattle.cg_expand.specs.Parts.Names.{names_twice}
+use Rattle.cg_expand.specs.Parts.Labels.{labels_twice}
 use Rattle.cg_expand.proofs.AutomaticItems.{alert_found, alert_names, in_automatic, in_fields_with, interrupt_found, interrupt_names, names_with}
 use Rattle.cg_expand.proofs.Faces.{Stands, faces_faults, in_front, in_names, in_others, in_own, own_items, stands, stands_there}
 use Rattle.cg_expand.proofs.PlainFaults.{counts_faults, items_faults, plain_violates, violates_plain}

@@ -1,5 +1,5 @@
 -- The automatic registers are as many, and have as many fields, as are counted.
-use Rattle.std.proofs.Common.{ℕ, ◌≡◌, ◌+◌, ◌*◌, ◌<◌, suc, min, Bool, true, false, ◌&&◌, ◌||◌, nat_lt, cond, List, [], ◌∷◌, ◌++◌, length, sum_by, refl, sym, ap, ◌∙◌, add-zero, arith}
+use Rattle.std.proofs.Common.{ℕ, ◌≡◌, ◌+◌, ◌*◌, suc, min, Bool, true, false, ◌&&◌, ◌||◌, nat_lt, cond, List, [], ◌∷◌, ◌++◌, length, sum_by, refl, sym, ap, ◌∙◌, arith}
 use Rattle.std.proofs.lemmas.Bool.Decides.{nat_tests}
 use Rattle.std.proofs.lemmas.List.Sums.{sum_by-append}
 use Rattle.cg_svspec.specs.Printable.{AllOf}
@@ -12,10 +12,9 @@ use Rattle.cg_desc.specs.declared.block.IntrDesc.{IntrDesc}
 use Rattle.cg_desc.specs.declared.block.AlertDesc.{AlertDesc}
 use Rattle.cg_desc.specs.declared.block.FaceDesc.{FaceDesc}
 use Rattle.cg_desc.specs.declared.block.BlockDesc.{BlockDesc}
-use Rattle.cg_desc.specs.Items.{alert_fields, alert_registers, automatic_items, has_some, interrupt_fields, interrupt_registers, items_of_block, items_of_faces, state_access}
+use Rattle.cg_desc.specs.Items.{alert_fields, alert_registers, automatic_items, has_some, interrupt_fields, interrupt_registers, items_of_faces, state_access}
 use Rattle.cg_desc.specs.Valid.{IsValidInterface}
 use Rattle.cg_expand.specs.Violations.{field_count, fields_in, row_count, rows_in}
-use Rattle.cg_expand.specs.declared.sizes.Size.{Size}
 use Rattle.cg_expand.specs.Parts.Sizes.{capped, face_fields, face_rows, is_too_large}
 use Rattle.cg_expand.proofs.Counts.{fields_of_faces, rows_of_faces}
 

@@ -1,5 +1,5 @@
 -- Where all written names stand behind a place, what is found in items stands there too, or is found before they are made.
-use Rattle.std.proofs.Common.{ℕ, ◌≡◌, ◌<◌, Bool, true, ◌&&◌, ◌||◌, ◌⊎◌, List, [], ◌∷◌, ◌++◌, inl, inr, refl, sym, ap, ◌∙◌, append_assoc, subst}
+use Rattle.std.proofs.Common.{ℕ, ◌≡◌, ◌<◌, Bool, true, ◌⊎◌, List, [], ◌∷◌, ◌++◌, inl, inr, refl, sym, ap, ◌∙◌, append_assoc, subst}
 use Rattle.std.specs.List.{flat_map, list_all}
 use Rattle.std.proofs.lemmas.Bool.{and_parts}
 use Rattle.cg_desc.specs.declared.place.At.{At}
@@ -8,7 +8,7 @@ use Rattle.cg_desc.specs.declared.block.Item.TheVariants.{Reg}
 use Rattle.cg_desc.specs.declared.block.FaceDesc.{FaceDesc}
 use Rattle.cg_desc.specs.declared.block.BlockDesc.{BlockDesc}
 use Rattle.cg_desc.specs.Items.{automatic_items, has_some, items_of_faces}
-use Rattle.cg_finding.specs.Finding.{Among, Finding, In, finding}
+use Rattle.cg_finding.specs.Finding.{Among, Finding, In}
 use Rattle.cg_expand.specs.Parts.Faults.{all_behind, early_faults, entry_behind, fields_twice, none_known}
 use Rattle.cg_expand.specs.Parts.Names.{also, item_twice, names_twice}
 use Rattle.cg_expand.proofs.AllFaults.{early_has_automatic}

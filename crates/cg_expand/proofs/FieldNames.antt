@@ -1,5 +1,5 @@
 -- A field's name comes twice exactly where it is found.
-use Rattle.std.proofs.Common.{ℕ, ◌≡◌, ◌<◌, nat_lt, Bool, true, ◌&&◌, List, [], ◌∷◌, map, refl, sym, ap, subst}
+use Rattle.std.proofs.Common.{◌≡◌, ◌<◌, nat_lt, true, List, [], map, subst}
 use Rattle.std.specs.List.{Contains, flat_map, list_any}
 use Rattle.std.specs.Str.{str_eq_ignore_ascii_case}
 use Rattle.std.proofs.lemmas.Bool.{and_from, and_parts, lt-ltb, ltb-true}

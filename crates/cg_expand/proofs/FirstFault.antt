@@ -1,12 +1,12 @@
 -- The first that is found is the first that a block breaks.
-use Rattle.std.proofs.Common.{ℕ, ◌≡◌, ◌<◌, true, ◌⊎◌, List, [], ◌++◌, Option, Some, None, inl, inr, refl, sym, ◌∙◌, subst}
+use Rattle.std.proofs.Common.{ℕ, ◌≡◌, true, [], ◌++◌, Some, None, inl, inr, refl, sym, ◌∙◌, subst}
 use Rattle.cg_desc.proofs.FaultOrder.{before_transitive}
 use Rattle.cg_desc.specs.declared.block.BlockDesc.{BlockDesc}
 use Rattle.cg_desc.specs.declared.fault.DescFault.{DescFault}
 use Rattle.cg_desc.specs.declared.fault.DescFault.TheVariants.{Fault, Memory}
 use Rattle.cg_desc.specs.Faults.{Before}
 use Rattle.cg_desc.specs.Items.{items_of_block}
-use Rattle.cg_finding.specs.Finding.{Finding, In, IsFirst, finding, first_of, in_file}
+use Rattle.cg_finding.specs.Finding.{Finding, In, finding, first_of, in_file}
 use Rattle.cg_finding.specs.Refusal.{Names}
 use Rattle.cg_finding.specs.Violations.{IsFirstViolation, RefusesFirst}
 use Rattle.cg_finding.proofs.Firsts.{first_of_is_first, none_is_empty}

@@ -1,5 +1,5 @@
 -- Going over items with the names that are known.
-use Rattle.std.proofs.Common.{ℕ, ◌≡◌, ◌+◌, ◌<◌, ◌≤◌, suc, Bool, List, ◌∷◌, ◌++◌, Option, length, get_or, drop, drop-cons, add-one, refl, sym, ap, ◌∙◌}
+use Rattle.std.proofs.Common.{ℕ, ◌≡◌, ◌+◌, ◌<◌, ◌≤◌, suc, Bool, List, ◌∷◌, Option, length, get_or, drop, drop-cons, add-one, sym, ap, ◌∙◌}
 use Rattle.std.proofs.lemmas.List.{drop_all}
 use Rattle.cg_desc.specs.declared.block.Item.{Item}
 use Rattle.cg_finding.specs.Finding.{Finding, earlier, first_of}

@@ -1,15 +1,14 @@
 -- What stands behind a place does not come before what is found at it.
-use Rattle.std.proofs.Common.{ℕ, ◌≡◌, ◌<◌, nat_lt, Bool, true, false, ◌&&◌, cond, List, [], ◌∷◌, ◌++◌, Option, Some, None, inl, inr, refl, sym, ap, ◌∙◌, subst, arith}
+use Rattle.std.proofs.Common.{◌≡◌, ◌<◌, nat_lt, Bool, true, false, cond, List, [], ◌∷◌, ◌++◌, Some, inl, inr, refl, sym, ap, ◌∙◌, subst, arith}
 use Rattle.std.specs.Cmp.{nat_cmp_is}
 use Rattle.std.specs.Cmp.Lexicographic.{slice_cmp}
-use Rattle.std.specs.List.{flat_map, list_all, list_any}
+use Rattle.std.specs.List.{list_all, list_any}
 use Rattle.std.specs.Ordering.{is_gt, nat_cmp, ordering_then}
-use Rattle.std.specs.declared.cmp.Ordering.{Ordering}
 use Rattle.std.specs.declared.cmp.Ordering.TheVariants.{Less, Equal}
 use Rattle.std.proofs.lemmas.Bool.{and_parts}
 use Rattle.std.proofs.lemmas.Bool.Decides.{nat_tests}
 use Rattle.cg_desc.specs.declared.place.At.{At}
-use Rattle.cg_finding.specs.Finding.{Among, Finding, In, earlier, finding, finding_cmp, first_of, the_earlier}
+use Rattle.cg_finding.specs.Finding.{Among, Finding, In, earlier, finding, finding_cmp, first_of}
 use Rattle.cg_finding.proofs.Firsts.{earlier-None, earlier_assoc, first_of-append, first_of-one}
 use Rattle.cg_finding.proofs.Members.{in_flat_map, in_when}
 use Rattle.cg_expand.specs.Violations.{Named}

@@ -1,5 +1,5 @@
 -- Copies of a valid register: how many have room in a word, and where they stand in it.
-use Rattle.std.proofs.Common.{ℕ, ◌≡◌, ◌+◌, ◌-◌, ◌*◌, ◌/◌, ◌^◌, ◌<◌, ◌≤◌, suc, zero, Bool, true, false, cond, List, [], ◌∷◌, ◌++◌, map, length, get_or, refl, sym, ap, ◌∙◌, arith}
+use Rattle.std.proofs.Common.{ℕ, ◌≡◌, ◌+◌, ◌-◌, ◌*◌, ◌/◌, ◌<◌, ◌≤◌, suc, zero, Bool, true, false, cond, List, [], ◌∷◌, length, get_or, refl, ap, ◌∙◌, arith}
 use Rattle.std.proofs.Math.Nat.{mul-div-le, div-le_self, mul-le-mul_left, mul-le-mul_right, mul-zero, div-mul-le_self}
 use Rattle.std.proofs.lemmas.Nat.{le-div}
 use Rattle.cg_desc.specs.Items.{copies_in_word, copies_per_word, copy_bits, word_count}
@@ -13,11 +13,7 @@ pub record Room (n : ℕ) : Type 0 where
   pub some : 0 < n
   pub few : n ≤ 32
 
--- the one field of a copy ends within a word
-sole_bits : (fs : List FieldDesc) → FieldsFit 0 fs → copy_bits fs ≤ 32
-sole_bits [] fit = omega arith
-sole_bits (f ∷ fs) fit = let top : f.msb < 32 = fit.3 in omega arith
-
+-- as many copies as have room
 room_compact : (fs : List FieldDesc) → FieldsFit 0 fs → Room (32 / copy_bits fs)
 room_compact [] fit = record { some = omega arith; few = omega arith }
 room_compact (f ∷ fs) fit = record {

@@ -1,5 +1,5 @@
 -- Where what entries stand for stands in the file.
-use Rattle.std.proofs.Common.{ℕ, ◌≡◌, ◌+◌, ◌*◌, ◌<◌, nat_lt, Bool, true, ◌&&◌, ◌⊎◌, List, [], ◌∷◌, ◌++◌, map, Option, Some, None, inl, inr, refl, sym, ap, subst}
+use Rattle.std.proofs.Common.{ℕ, ◌≡◌, ◌+◌, ◌*◌, ◌<◌, nat_lt, true, ◌⊎◌, List, [], ◌∷◌, ◌++◌, map, Some, inl, inr, refl, sym, subst}
 use Rattle.std.specs.List.{flat_map, list_all, range_with_len}
 use Rattle.std.proofs.lemmas.Bool.{and_parts, ltb-true}
 use Rattle.cg_desc.specs.declared.place.At.{At}
@@ -9,7 +9,7 @@ use Rattle.cg_desc.specs.declared.block.MultiDesc.{MultiDesc}
 use Rattle.cg_desc.specs.declared.block.Written.{Written}
 use Rattle.cg_desc.specs.declared.block.Written.TheVariants as written
 use Rattle.cg_desc.specs.declared.block.Item.{Item}
-use Rattle.cg_desc.specs.declared.block.Item.TheVariants.{Reg, Window, SkipTo, Reserved}
+use Rattle.cg_desc.specs.declared.block.Item.TheVariants.{Reg, Window}
 use Rattle.cg_desc.specs.Items.{copies_in_word, copies_per_word, copy_bits, copy_fields, entry_items, multireg_word, word_count, word_fields}
 use Rattle.cg_finding.specs.Finding.{Among}
 use Rattle.cg_expand.specs.Violations.{Named, name_of}
@@ -17,7 +17,7 @@ use Rattle.cg_expand.specs.Parts.Copies.{moved}
 use Rattle.cg_expand.specs.Parts.Faults.{entry_behind, fields_of, register_behind}
 use Rattle.cg_expand.specs.Parts.Labels.{field_label, is_behind}
 use Rattle.cg_expand.proofs.Later.{passes}
-use Rattle.cg_expand.proofs.Membership.{Viewed, in_map, map_has}
+use Rattle.cg_expand.proofs.Membership.{in_map, map_has}
 
 -- ---- what stands in lists that are made of lists
 

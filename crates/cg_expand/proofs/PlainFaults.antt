@@ -1,5 +1,5 @@
 -- What a block breaks is what stands in one plain list.
-use Rattle.std.proofs.Common.{ℕ, ◌≡◌, ◌<◌, nat_lt, Bool, true, false, ◌||◌, ◌⊎◌, cond, List, [], ◌∷◌, ◌++◌, length, inl, inr, refl, sym, ap, subst}
+use Rattle.std.proofs.Common.{ℕ, ◌≡◌, ◌<◌, nat_lt, true, ◌⊎◌, List, [], ◌++◌, length, inl, inr, refl, sym, subst}
 use Rattle.std.specs.List.{Contains, flat_map}
 use Rattle.std.proofs.lemmas.Bool.{lt-ltb, ltb-true, or_cases, or_left, or_right}
 use Rattle.cg_desc.specs.declared.place.At.{At}

@@ -1,8 +1,8 @@
 -- Whether there is room for the fields of automatic registers, and what is found where there is none.
-use Rattle.std.proofs.Common.{ℕ, ◌≡◌, ◌<◌, ◌≤◌, nat_le, nat_lt, Bool, true, false, ◌&&◌, [], inl, inr, length, sum_by, ap, ◌∙◌}
+use Rattle.std.proofs.Common.{ℕ, ◌≡◌, ◌<◌, ◌≤◌, nat_le, true, [], inl, inr, length, sum_by, ap, ◌∙◌}
 use Rattle.std.proofs.lemmas.Bool.{and_from, and_parts, cases_lt, le-leb, leb-true}
 use Rattle.cg_desc.specs.declared.block.BlockDesc.{BlockDesc}
-use Rattle.cg_desc.specs.Items.{automatic_items, items_of_block, items_of_faces}
+use Rattle.cg_desc.specs.Items.{items_of_block, items_of_faces}
 use Rattle.cg_finding.specs.Finding.{Finding, finding}
 use Rattle.cg_expand.specs.Violations.{Violates, alerts, interrupt_bits, interrupts}
 use Rattle.cg_expand.specs.Parts.Automatic.{automatic_with, has_room}

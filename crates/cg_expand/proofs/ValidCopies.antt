@@ -1,19 +1,18 @@
 -- The words of a valid register's copies are valid registers.
-use Rattle.std.proofs.Common.{ℕ, ◌≡◌, ◌+◌, ◌-◌, ◌*◌, ◌/◌, ◌^◌, ◌<◌, ◌≤◌, min, zero, suc, Bool, true, false, nat_lt, cond, List, [], ◌∷◌, ◌++◌, map, length, get_or, append-nil, refl, sym, ap, ◌∙◌, subst, arith}
+use Rattle.std.proofs.Common.{ℕ, ◌≡◌, ◌+◌, ◌-◌, ◌*◌, ◌/◌, ◌^◌, ◌<◌, ◌≤◌, zero, suc, Bool, true, false, nat_lt, cond, List, [], ◌∷◌, ◌++◌, map, length, get_or, append-nil, refl, sym, subst, arith}
 use Rattle.std.specs.List.{flat_map, range_with_len}
 use Rattle.std.specs.Fmt.{decimal}
-use Rattle.std.proofs.Math.Nat.{mul-zero, mul_comm, suc-mul}
-use Rattle.std.proofs.lemmas.Bool.{or_left, or_right}
+use Rattle.std.proofs.Math.Nat.{mul-zero}
+use Rattle.std.proofs.lemmas.Bool.{or_right}
 use Rattle.cg_svspec.specs.Characters.{Each, IsWord, is_digit, is_first, is_name_character}
 use Rattle.cg_svspec.specs.Printable.{AllOf}
 use Rattle.cg_svspec.proofs.Numerals.{decimal_digits}
 use Rattle.cg_desc.specs.declared.block.FieldDesc.{FieldDesc}
-use Rattle.cg_desc.specs.declared.block.RegDesc.{RegDesc}
 use Rattle.cg_desc.specs.declared.block.MultiDesc.{MultiDesc}
 use Rattle.cg_desc.specs.Items.{copies_in_word, copies_per_word, copy_bits, copy_fields, multireg_word, numbered, word_count, word_fields}
 use Rattle.cg_desc.specs.Laid.{FieldsFit, HasField}
 use Rattle.cg_desc.specs.Valid.{HasOneField, IsValidMultireg, IsValidRegister}
-use Rattle.cg_expand.specs.Parts.Copies.{moved, word_name}
+use Rattle.cg_expand.specs.Parts.Copies.{moved}
 use Rattle.cg_expand.proofs.Multiregs.{Placed, filled, per_word, placed_by, word_starts}
 
 -- ---- names

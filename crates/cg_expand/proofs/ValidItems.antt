@@ -1,5 +1,5 @@
 -- The items of a valid block are valid, where there is room for the fields of automatic registers.
-use Rattle.std.proofs.Common.{ℕ, ◌≡◌, ◌+◌, ◌-◌, ◌^◌, ◌<◌, ◌≤◌, zero, suc, Bool, true, false, ◌&&◌, cond, List, [], ◌∷◌, ◌++◌, map, length, sum_by, codes, refl, subst, rules, arith}
+use Rattle.std.proofs.Common.{ℕ, ◌≡◌, ◌+◌, ◌-◌, ◌<◌, ◌≤◌, zero, suc, Bool, true, false, ◌&&◌, cond, List, [], ◌∷◌, ◌++◌, map, length, sum_by, codes, refl, subst, rules, arith}
 use Rattle.std.specs.List.{flat_map, range_with_len}
 use Rattle.std.proofs.lemmas.Bool.{and_parts}
 use Rattle.std.proofs.lemmas.List.Sums.{sum_by-cons}
@@ -23,7 +23,7 @@ use Rattle.cg_desc.specs.declared.block.FaceDesc.{FaceDesc}
 use Rattle.cg_desc.specs.declared.block.BlockDesc.{BlockDesc}
 use Rattle.cg_desc.specs.Items.{alert_fields, alert_registers, automatic_items, automatic_register, entry_items, has_some, interrupt_fields, interrupt_registers, items_of_block, items_of_faces, multireg_word, state_access, word_count}
 use Rattle.cg_desc.specs.Laid.{FieldsFit, HasField}
-use Rattle.cg_desc.specs.Valid.{IsValidAlert, IsValidBlock, IsValidEntry, IsValidInterface, IsValidInterrupt, IsValidItem, IsValidMultireg, IsValidRegister}
+use Rattle.cg_desc.specs.Valid.{IsValidAlert, IsValidBlock, IsValidEntry, IsValidInterface, IsValidInterrupt, IsValidItem, IsValidMultireg}
 use Rattle.cg_expand.specs.Expands.{HasValidItems}
 use Rattle.cg_expand.proofs.ValidCopies.{word_valid}
 

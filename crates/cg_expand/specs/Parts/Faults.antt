@@ -8,7 +8,6 @@ use Rattle.cg_desc.specs.declared.block.Written.{Written}
 use Rattle.cg_desc.specs.declared.block.Written.TheVariants as written
 use Rattle.cg_desc.specs.declared.block.Item.{Item}
 use Rattle.cg_desc.specs.declared.block.Item.TheVariants.{Reg, Window, SkipTo, Reserved}
-use Rattle.cg_desc.specs.declared.block.FaceDesc.{FaceDesc}
 use Rattle.cg_desc.specs.declared.block.FaceItems.{FaceItems}
 use Rattle.cg_desc.specs.declared.block.BlockDesc.{BlockDesc}
 use Rattle.cg_desc.specs.Items.{has_some, items_of_block, items_of_faces}

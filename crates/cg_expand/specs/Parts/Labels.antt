@@ -1,5 +1,5 @@
 -- Names with their places, which are compared by place.
-use Rattle.std.specs.Prelude.{ℕ, nat_lt, Bool, ◌&&◌, cond, List, [], ◌∷◌}
+use Rattle.std.specs.Prelude.{nat_lt, Bool, ◌&&◌, cond, List, [], ◌∷◌}
 use Rattle.std.specs.List.{flat_map, list_any}
 use Rattle.std.specs.Str.{str_eq_ignore_ascii_case}
 use Rattle.cg_desc.specs.declared.place.At.{At}

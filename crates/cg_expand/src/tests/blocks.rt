@@ -1,9 +1,9 @@
 //! Small valid blocks, and what is answered to them.
 
-ghost use Rattle.std.specs.Prelude.{◌≡◌, ◌≤◌, ◌<◌, IfOk, OnOk};
-ghost use Rattle.cg_svspec.specs.Characters.{IsWord};
+ghost use Rattle.std.specs.Prelude.{◌≡◌, ◌≤◌, ◌<◌, length, IfOk, OnOk};
+ghost use Rattle.cg_svspec.specs.Characters.{IsName, IsWord};
 ghost use Rattle.cg_svspec.specs.Printable.{AllOf};
-ghost use Rattle.cg_desc.specs.Valid.{HasOneField, IsValidAlert, IsValidBlock, IsValidEntry, IsValidInterface, IsValidInterrupt, IsValidMultireg, IsValidRegister};
+ghost use Rattle.cg_desc.specs.Valid.{HasOneField, InterfacesDiffer, IsValidAlert, IsValidBlock, IsValidEntry, IsValidInterface, IsValidInterrupt, IsValidMultireg, IsValidRegister};
 
 use crate::expand;
 use cg_base::{List, Memory, Text};
@@ -172,28 +172,47 @@ pub fn add_alert(alerts: &mut List<AlertDesc>, name: &str, byte: u32) -> Result<
     Ok(())
 }
 
-/// A device interface with these entries.
+/// A device interface of this name.
+fn face(alloc: Global, name: &str, entries: List<Written>) -> Result<FaceDesc, Memory>
+    requires name { IsName name.now }
+    requires entries { AllOf IsValidEntry entries }
+    ensures { IfOk result (λ face. (face.name ≡ Some name.now) × IsValidInterface face) }
+{
+    Ok(FaceDesc {
+        name: Some(Text::of(alloc, name)?),
+        entries,
+        at: at(REGISTERS_AT),
+    })
+}
+
+/// One device interface with these entries.
 pub fn one_face(alloc: Global, entries: List<Written>) -> Result<List<FaceDesc>, Memory>
     requires { AllOf IsValidEntry entries }
-    ensures { IfOk result (λ faces. AllOf IsValidInterface faces) }
+    ensures valid { IfOk result (λ faces. AllOf IsValidInterface faces) }
+    ensures few { IfOk result (λ faces. length faces ≤ 8) }
+    ensures differ { IfOk result InterfacesDiffer }
 {
     let mut faces = List::new(alloc);
-    add_face(&mut faces, entries)?;
+    faces.push(face(alloc, "core", entries)?)?;
     Ok(faces)
 }
 
-/// Adds a device interface with these entries.
-pub fn add_face(faces: &mut List<FaceDesc>, entries: List<Written>) -> Result<(), Memory>
-    requires entries { AllOf IsValidEntry entries }
-    requires others { AllOf IsValidInterface faces.old }
-    ensures { OnOk result (AllOf IsValidInterface faces.new) }
+/// Two device interfaces with these entries.
+pub fn two_faces(
+    alloc: Global,
+    first: List<Written>,
+    second: List<Written>,
+) -> Result<List<FaceDesc>, Memory>
+    requires first { AllOf IsValidEntry first }
+    requires second { AllOf IsValidEntry second }
+    ensures valid { IfOk result (λ faces. AllOf IsValidInterface faces) }
+    ensures few { IfOk result (λ faces. length faces ≤ 8) }
+    ensures differ { IfOk result InterfacesDiffer }
 {
-    faces.push(FaceDesc {
-        name: None,
-        entries,
-        at: at(REGISTERS_AT),
-    })?;
-    Ok(())
+    let mut faces = List::new(alloc);
+    faces.push(face(alloc, "core", first)?)?;
+    faces.push(face(alloc, "debug", second)?)?;
+    Ok(faces)
 }
 
 /// A block with these lists, which has its automatic registers.
@@ -206,6 +225,8 @@ pub fn block(
     requires interrupts { AllOf IsValidInterrupt intrs }
     requires alerts { AllOf IsValidAlert alerts }
     requires interfaces { AllOf IsValidInterface faces }
+    requires few { length faces ≤ 8 }
+    requires differ { InterfacesDiffer faces }
     ensures { IfOk result IsValidBlock }
 {
     Ok(BlockDesc {

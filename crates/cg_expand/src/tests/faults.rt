@@ -5,8 +5,8 @@ ghost use Rattle.cg_svspec.specs.Printable.{AllOf};
 ghost use Rattle.cg_desc.specs.Valid.{IsValidAlert};
 
 use super::blocks::{
-    add, add_alert, add_face, add_interrupt, answer, block, copies, of_entries, one_face, pair,
-    register,
+    add, add_alert, add_interrupt, answer, block, copies, of_entries, one_face, pair, register,
+    two_faces,
 };
 use cg_base::{List, Memory};
 use cg_desc::{AlertDesc, MultiDesc, Written};
@@ -76,18 +76,17 @@ fn automatic_names_are_taken(rt: HostRuntime) -> Result<(), Fail> {
 #[test]
 fn interfaces_do_not_share_names(rt: HostRuntime) -> Result<(), Fail> {
     let alloc = rt.alloc();
-    let mut entries = List::new(alloc);
+    let mut first = List::new(alloc);
     add(
-        &mut entries,
+        &mut first,
         Written::Reg(register(alloc, "R", "F", (0, 0), 1010)?),
     )?;
-    let mut faces = one_face(alloc, entries)?;
-    let mut others = List::new(alloc);
+    let mut second = List::new(alloc);
     add(
-        &mut others,
+        &mut second,
         Written::Reg(register(alloc, "R", "F", (0, 0), 1020)?),
     )?;
-    add_face(&mut faces, others)?;
+    let faces = two_faces(alloc, first, second)?;
     let text = answer(
         alloc,
         &block(alloc, List::new(alloc), List::new(alloc), faces)?,

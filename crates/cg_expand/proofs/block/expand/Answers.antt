@@ -1,9 +1,8 @@
-use Rattle.std.proofs.Common.{◌≡◌, ◌++◌, Option, Some, None, ap, sym, ◌∙◌, subst}
+use Rattle.std.proofs.Common.{◌≡◌, ◌++◌, Option, None, ap, sym, ◌∙◌, subst}
 use Rattle.std.specs.List.{flat_map}
 use Rattle.cg_svspec.specs.Printable.{AllOf}
 use Rattle.cg_desc.specs.declared.block.BlockDesc.{BlockDesc}
 use Rattle.cg_finding.specs.Finding.{Finding, earlier, first_of}
-use Rattle.cg_finding.specs.Found.{sees}
 use Rattle.cg_finding.proofs.Firsts.{first_of-append}
 use Rattle.cg_expand.specs.Expands.{HasValidItems}
 use Rattle.cg_expand.specs.Parts.Faults.{early_faults, face_faults, late_faults}

@@ -1,4 +1,4 @@
-use Rattle.std.proofs.Common.{◌≡◌, [], ◌++◌, ◌*◌, length, map, drop, append-nil, ap, sym, ◌∙◌, arith}
+use Rattle.std.proofs.Common.{◌≡◌, [], ◌++◌, ◌*◌, map, drop, append-nil, ap, sym, ◌∙◌, arith}
 use Rattle.std.proofs.lemmas.List.{drop_all}
 use Rattle.cg_desc.specs.Items.{copy_bits, copy_fields}
 use Rattle.cg_expand.specs.Parts.Copies.{moved}

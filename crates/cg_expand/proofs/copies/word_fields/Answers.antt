@@ -1,6 +1,6 @@
 use Rattle.std.proofs.Common.{ℕ, ◌≡◌, ◌+◌, ◌*◌, ◌++◌, ap, sym, ◌∙◌, arith}
 use Rattle.std.specs.List.{flat_map, range_with_len}
-use Rattle.cg_desc.specs.Items.{copies_in_word, copies_per_word, copy_fields, word_fields}
+use Rattle.cg_desc.specs.Items.{copies_per_word, copy_fields, word_fields}
 use Rattle.cg_expand.proofs.Multiregs.{filled, word_starts}
 use Rattle.cg_expand.proofs.Ranges.{over_more}
 use Rattle.cg_expand.proofs.copies.word_fields.Goals as goal

@@ -1,4 +1,4 @@
-use Rattle.std.proofs.Common.{ℕ, ◌≡◌, ◌+◌, ◌++◌, [], ◌∷◌, map, append_assoc, ap, sym, ◌∙◌, arith}
+use Rattle.std.proofs.Common.{ℕ, ◌++◌, [], ◌∷◌, map, append_assoc, ap, sym, ◌∙◌, arith}
 use Rattle.std.proofs.lemmas.List.FromFn.{map-range_with_len_more}
 use Rattle.std.specs.List.{range_with_len}
 use Rattle.cg_desc.specs.Items.{multireg_word}

@@ -1,4 +1,4 @@
-use Rattle.std.proofs.Common.{◌≡◌, [], ◌+◌, ◌||◌, true, nat_lt, sum_by, rules, ap, sym, ◌∙◌}
+use Rattle.std.proofs.Common.{◌≡◌, [], ◌+◌, ◌||◌, true, nat_lt, sum_by, rules, ap, ◌∙◌}
 use Rattle.cg_desc.specs.Items.{automatic_items, has_some}
 use Rattle.cg_expand.specs.Parts.Sizes.{capped, face_fields, face_rows}
 use Rattle.cg_expand.specs.Violations.{fields_in, rows_in}
