@@ -1,4 +1,12 @@
-//! The reader of blocks.
+//! The reader of blocks: from the tree of a document to the description of a block (OpenTitan Register Tool).
+//!
+//! `block` judges first keys, kinds and the profile, and then, where none of these rules is broken, bits, reset values and
+//! counts. It gives the description where nothing is broken, and else the first of all that is, exactly. What is broken is
+//! defined rule by rule over the tree, apart from the order in which the code looks; unknown keys are read past, and where a
+//! key stands twice the first counts. A description that it gives is valid.
+//!
+//! Not promised: that memory is found, and anything of names that come twice, of counts of items, and of offsets, which
+//! later layers judge.
 #![tactic(auto)]
 
 mod bits;

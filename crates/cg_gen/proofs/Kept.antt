@@ -52,9 +52,9 @@ seek_by : (q : List ℕ) (c : Change) (cs : List Change) (b : Bool) → bytes_eq
 seek_by q c cs true e rest = inl (record { change = c; among = inl refl; same = sym ((bytes_eq-Decides q c.name).0 e) })
 seek_by q c cs false e (inl has) = inl (record { change = has.change; among = inr has.among; same = has.same })
 seek_by q c cs false e (inr none) = inr (λ d in'. elim in' [
-    | inl is ↦ λ same. false≢true (sym e ∙ (bytes_eq-Decides q c.name).1 (same ∙ ap (λ (x : Change). x.name) is))
-    | inr there ↦ none d there
-  ])
+  | inl is ↦ λ same. false≢true (sym e ∙ (bytes_eq-Decides q c.name).1 (same ∙ ap (λ (x : Change). x.name) is))
+  | inr there ↦ none d there
+])
 
 seek : (q : List ℕ) (cs : List Change) → HasName q cs ⊎ Untouched q cs
 seek q [] = inr (λ c in'. absurd in')
@@ -106,9 +106,9 @@ pub puts_out : (x : Change) (cs ds : List Change) → Among x (put_changes cs ds
 unfolding put_changes
 puts_out x cs [] among = inl among
 puts_out x cs (d ∷ ds) among = elim (puts_out x (put_change d cs) ds among) [
-    | inl put ↦ elim (put_out x d cs put) [ inl is ↦ inr (inl is) | inr there ↦ inl there ]
-    | inr behind ↦ inr (inr behind)
-  ]
+  | inl put ↦ elim (put_out x d cs put) [ inl is ↦ inr (inl is) | inr there ↦ inl there ]
+  | inr behind ↦ inr (inr behind)
+]
 
 pub puts_in : (x : Change) (cs ds : List Change) → Among x cs ⊎ Among x ds → Among x (put_changes cs ds)
 unfolding put_changes

@@ -153,12 +153,12 @@ Laws = PrintedTextStands × RegisterModuleMeans
 holds : Laws → (c : RegisterTexts) (laid : LaidBlock) (m : Files) (face : LaidFace) → LaidDiffer laid.faces → Among face laid.faces → Acts laid face
     → HoldsMeaning c laid (after m (put_changes [] (texts c.dir laid laid.faces))) face
 holds laws c laid m face differ among acts = record {
-    text = module_text (module_of_face laid face);
-    held = text_held c.dir laid differ m face among;
-    module_of_text = module_of_face laid face;
-    stands = laws.0 (module_of_face laid face) acts.well_formed.printable;
-    acts = acts;
-  }
+  text = module_text (module_of_face laid face);
+  held = text_held c.dir laid differ m face among;
+  module_of_text = module_of_face laid face;
+  stands = laws.0 (module_of_face laid face) acts.well_formed.printable;
+  acts = acts;
+}
 
 written_block : Laws → (words : List (List ℕ)) (m : Files) (c : RegisterTexts) (bytes : List ℕ) (t : Tree) (laid : LaidBlock)
     → IsRegisterTexts words c → fin.get m c.file ≡ Some bytes → IsLaidOutAs bytes t laid → first_clash (modules_of laid) ≡ None
@@ -186,9 +186,11 @@ Writes words m files = (n : Files) × (files ≡ Some n) × WritesBlock words m 
 
 by_outputs : Laws → (words : List (List ℕ)) (m : Files) (files : Option Files) (c : RegisterTexts) (given : Option (List ℕ)) (outputs : List Output) → IsRegisterTexts words c
     → fin.get m c.file ≡ given → IsBuilt given outputs → files ≡ changed (Some m) (changes_of c.dir outputs) → Writes words m files
-by_outputs laws words m files c _ _ is_c gave (built {bytes} t laid is apart) done =
-    (after m (put_changes [] (texts c.dir laid laid.faces)),
-      done ∙ ap (changed (Some m)) (changes_are c.dir laid) ∙ changed_is m (put_changes [] (texts c.dir laid laid.faces)), written_block laws words m c bytes t laid is_c gave is apart)
+by_outputs laws words m files c _ _ is_c gave (built {bytes} t laid is apart) done = (
+  after m (put_changes [] (texts c.dir laid laid.faces)),
+  done ∙ ap (changed (Some m)) (changes_are c.dir laid) ∙ changed_is m (put_changes [] (texts c.dir laid laid.faces)),
+  written_block laws words m c bytes t laid is_c gave is apart,
+)
 
 by_due : Laws → (words : List (List ℕ)) (m : Files) (files : Option Files) (due : Due) → IsDue words (Some m) due → due.status ≡ 0
     → files ≡ changed (Some m) due.changes → Writes words m files

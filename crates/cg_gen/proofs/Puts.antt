@@ -16,9 +16,9 @@ pub place-within : (name : List ℕ) (ds : List Change) → place_in name ds ≤
 unfolding place_in
 place-within name [] = omega arith
 place-within name (d ∷ ds) = (elim (is_gt (slice_cmp nat_cmp d.name name)) as (λ b. cond b 0 (suc (place_in name ds)) ≤ suc (length ds)) [
-    | true ↦ omega arith
-    | false ↦ let more = place-within name ds in omega arith
-  ])
+  | true ↦ omega arith
+  | false ↦ let more = place-within name ds in omega arith
+])
 
 inserted_by : (c d : Change) (ds : List Change) (b : Bool) → insert ds (place_in c.name ds) c ≡ put_change c ds
     → insert (d ∷ ds) (cond b 0 (suc (place_in c.name ds))) c ≡ cond b (c ∷ d ∷ ds) (d ∷ put_change c ds)
@@ -45,7 +45,7 @@ tests_alike dir a b = ap is_gt (behind_alike dir (codes "/" ++ a) (codes "/" ++ 
 
 put_by : (dir : List ℕ) (o p : Output) (os : List Output) (b : Bool) → changes_of dir (put_output o os) ≡ put_change (stored dir o) (changes_of dir os)
     → changes_of dir (cond b (o ∷ p ∷ os) (p ∷ put_output o os))
-      ≡ cond b (stored dir o ∷ stored dir p ∷ changes_of dir os) (stored dir p ∷ put_change (stored dir o) (changes_of dir os))
+    ≡ cond b (stored dir o ∷ stored dir p ∷ changes_of dir os) (stored dir p ∷ put_change (stored dir o) (changes_of dir os))
 put_by dir o p os true e = refl
 put_by dir o p os false e = ap (λ cs. stored dir p ∷ cs) e
 

@@ -55,7 +55,14 @@ fn clash(at: At, name: Text) -> Fault
 }
 
 /// What is due for a block that is laid out.
-fn laid_due(alloc: Global, dir: &str, file: &str, bytes: &[u8], tree: &Tree, laid: &LaidBlock) -> Result<Due, Memory>
+fn laid_due(
+    alloc: Global,
+    dir: &str,
+    file: &str,
+    bytes: &[u8],
+    tree: &Tree,
+    laid: &LaidBlock,
+) -> Result<Due, Memory>
     requires stage { IsLaidOutAs bytes.now tree.now laid.now }
     requires valid { IsValidBlock (description tree.now) }
     requires laid { AllOf IsLaid laid.now.faces }

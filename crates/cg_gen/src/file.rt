@@ -73,7 +73,12 @@ pub fn tree_of(alloc: Global, bytes: &[u8]) -> Result<Tree, DescFault>
 }
 
 /// The items of the block, laid out.
-fn laid_items(alloc: Global, bytes: &[u8], tree: &Tree, block: BlockDesc) -> Result<LaidBlock, DescFault>
+fn laid_items(
+    alloc: Global,
+    bytes: &[u8],
+    tree: &Tree,
+    block: BlockDesc,
+) -> Result<LaidBlock, DescFault>
     requires stage { IsBlock bytes.now tree.now }
     requires block { block ≡ description tree.now }
     requires valid { IsValidBlock block }

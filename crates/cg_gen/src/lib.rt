@@ -2,12 +2,12 @@
 //!
 //! `run` finds what is due for the words, which is the first fault of the description that they name, its outputs, or the usage
 //! text, and then does it: the changes of the store in their order, and one line on a stream. Each status is a named clause, with
-//! its cause and with what the store and the streams hold after it. After status 0 the bytes in the store stand for a register
-//! module that acts as the block that the description asks for: this is said of the bytes, not of an inner tree.
+//! its cause and with what the store and the streams hold after it. After status 0 the store holds for each device interface a text
+//! that stands for a register module which acts as the interface that the description asks for: this is said of the bytes, not of
+//! an inner tree.
 //!
-//! Today one command is built, `regtool -r -t DIR FILE`, for one form of description: registers of 32 bits that software reads and
-//! writes. Any other description is refused by rule 27. Not promised: that memory is found, and anything of content over a store or a
-//! stream that tells none.
+//! Today one command is built, `regtool -r -t DIR FILE`; the words of the others are answered by the usage text. Not promised: that
+//! memory is found, and anything of content over a store or a stream that tells none.
 #![tactic(auto)]
 
 mod build;

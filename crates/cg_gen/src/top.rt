@@ -50,13 +50,14 @@ fn run_words<S: Store, O: Sink, E: Sink>(
 
 /// Does what the words say on the store and the streams, and answers the status.
 ///
-/// `words` leave out the program's name. Today they are a command exactly where they are `regtool -r -t DIR FILE`: the
-/// description FILE is read, and the register text of its block is written into DIR (OpenTitan Register Tool). `input`, `gate` and
-/// `steps` are not used by this command, and no thread is started.
+/// `words` leave out the program's name. Where they ask for register texts, as `regtool -r -t DIR FILE` does, the description FILE is
+/// read, and the register text of each device interface of its block is written into DIR (OpenTitan Register Tool). Other commands
+/// are not built yet. `input`, `gate` and `steps` are not used by this command, and no thread is started.
 ///
-/// The status is 0 where the text was written and told, 1 where the description has a first fault, 2 where the words are no
-/// command, 3 and 4 where the store or a stream failed, and 5 where memory was not found. What each means is a clause below. No
-/// clause rules out want of memory, and where the store or a stream tells no content, the clauses on content say nothing of it.
+/// The status is 0 where the texts were written and told, 1 where the description has a first fault, 2 where the words are no
+/// command that is built, 3 and 4 where the store or a stream failed, and 5 where memory was not found. What each means is a clause
+/// below. No clause rules out want of memory, and where the store or a stream tells no content, the clauses on content say nothing
+/// of it.
 pub fn run<R: Threads + Sync, S: Store, I: Source, O: Sink, E: Sink, G: Gate + Sync, L: Ledger>(
     _rt: &R,
     alloc: Global,
@@ -81,7 +82,7 @@ pub fn run<R: Threads + Sync, S: Store, I: Source, O: Sink, E: Sink, G: Gate + S
         let before : World = world (S.content store.old) (S.read_faults store.old) (S.change_faults store.old) (O.held out.old) (O.faults out.old) (E.held err.old) (E.faults err.old) in
         let after : World = world (S.content store.new) (S.read_faults store.new) (S.change_faults store.new) (O.held out.new) (O.faults out.new) (E.held err.new) (E.faults err.new) in
         Performs 1 (map string_bytes words.now) before after }
-    // the words are no command, and the usage text is told
+    // the words are no command that is built, and the usage text is told
     ensures no_command { result ≡ 2 →
         let before : World = world (S.content store.old) (S.read_faults store.old) (S.change_faults store.old) (O.held out.old) (O.faults out.old) (E.held err.old) (E.faults err.old) in
         let after : World = world (S.content store.new) (S.read_faults store.new) (S.change_faults store.new) (O.held out.new) (O.faults out.new) (E.held err.new) (E.faults err.new) in
@@ -102,7 +103,7 @@ pub fn run<R: Threads + Sync, S: Store, I: Source, O: Sink, E: Sink, G: Gate + S
     ensures complete { let before : World = world (S.content store.old) (S.read_faults store.old) (S.change_faults store.old) (O.held out.old) (O.faults out.old) (E.held err.old) (E.faults err.old) in
         let after : World = world (S.content store.new) (S.read_faults store.new) (S.change_faults store.new) (O.held out.new) (O.faults out.new) (E.held err.new) (E.faults err.new) in
         Completes result (map string_bytes words.now) before after }
-    // the bytes in the store stand for a module that acts as the block that the description asks for
+    // the bytes in the store stand for modules that act as the interfaces that the description asks for
     ensures meaning { result ≡ 0 →
         let before : World = world (S.content store.old) (S.read_faults store.old) (S.change_faults store.old) (O.held out.old) (O.faults out.old) (E.held err.old) (E.faults err.old) in
         let after : World = world (S.content store.new) (S.read_faults store.new) (S.change_faults store.new) (O.held out.new) (O.faults out.new) (E.held err.new) (E.faults err.new) in

@@ -5,10 +5,7 @@ use std::test::Fail;
 
 // Keys of a block and of its lists.
 const KEYS: [(&str, &str); 22] = [
-    (
-        "{}",
-        "1:1: fault 21: missing key: bus_interfaces",
-    ),
+    ("{}", "1:1: fault 21: missing key: bus_interfaces"),
     (
         "# a block\n{name: \"b\"}",
         "2:1: fault 21: missing key: bus_interfaces",

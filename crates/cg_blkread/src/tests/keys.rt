@@ -40,18 +40,9 @@ fn keys_that_stand_twice_are_told(rt: HostRuntime) -> Result<(), Fail> {
 
 // A needed key is absent; at the object's opener, the least name first.
 const MISSING: [(&str, &str); 10] = [
-    (
-        "{fields: [{bits: 0}]}",
-        "4:1: fault 21: missing key: name",
-    ),
-    (
-        "{name: \"R\"}",
-        "4:1: fault 21: missing key: fields",
-    ),
-    (
-        "{}",
-        "4:1: fault 21: missing key: fields",
-    ),
+    ("{fields: [{bits: 0}]}", "4:1: fault 21: missing key: name"),
+    ("{name: \"R\"}", "4:1: fault 21: missing key: fields"),
+    ("{}", "4:1: fault 21: missing key: fields"),
     (
         "{name: \"R\", fields: [{name: \"F\"}]}",
         "4:22: fault 21: missing key: bits",
@@ -64,22 +55,13 @@ const MISSING: [(&str, &str); 10] = [
         "{multireg: {name: \"R\", fields: [{bits: 0}]}}",
         "4:12: fault 21: missing key: count",
     ),
-    (
-        "{multireg: {}}",
-        "4:12: fault 21: missing key: count",
-    ),
+    ("{multireg: {}}", "4:12: fault 21: missing key: count"),
     (
         "{window: {name: \"W\"}}",
         "4:10: fault 21: missing key: items",
     ),
-    (
-        "{window: {items: 4}}",
-        "4:10: fault 21: missing key: name",
-    ),
-    (
-        "{sameaddr: []}",
-        "4:1: fault 21: missing key: fields",
-    ),
+    ("{window: {items: 4}}", "4:10: fault 21: missing key: name"),
+    ("{sameaddr: []}", "4:1: fault 21: missing key: fields"),
 ];
 
 #[test]
@@ -143,10 +125,7 @@ const KINDS: [(&str, &str); 23] = [
         "{name: \"R\", fields: [{bits: 0, mubi: \"y\"}]}",
         "4:38: fault 22: wrong kind: mubi",
     ),
-    (
-        "{multireg: []}",
-        "4:12: fault 22: wrong kind: multireg",
-    ),
+    ("{multireg: []}", "4:12: fault 22: wrong kind: multireg"),
     (
         "{multireg: {name: \"R\", count: true, fields: [{bits: 0}]}}",
         "4:31: fault 22: wrong kind: count",
@@ -159,10 +138,7 @@ const KINDS: [(&str, &str); 23] = [
         "{multireg: {name: \"R\", count: 2, compact: 0, fields: [{bits: 0}]}}",
         "4:43: fault 22: wrong kind: compact",
     ),
-    (
-        "{window: \"W\"}",
-        "4:10: fault 22: wrong kind: window",
-    ),
+    ("{window: \"W\"}", "4:10: fault 22: wrong kind: window"),
     (
         "{window: {name: \"W\", items: 4, swaccess: \"rc\"}}",
         "4:42: fault 22: wrong kind: swaccess",
@@ -171,14 +147,8 @@ const KINDS: [(&str, &str); 23] = [
         "{window: {name: \"W\", items: 4, byte-write: 1}}",
         "4:44: fault 22: wrong kind: byte-write",
     ),
-    (
-        "{skipto: true}",
-        "4:10: fault 22: wrong kind: skipto",
-    ),
-    (
-        "{reserved: []}",
-        "4:12: fault 22: wrong kind: reserved",
-    ),
+    ("{skipto: true}", "4:10: fault 22: wrong kind: skipto"),
+    ("{reserved: []}", "4:12: fault 22: wrong kind: reserved"),
     (
         "{skipto: \"x\", window: 1, name: 5}",
         "4:23: fault 22: wrong kind: window",
@@ -226,10 +196,7 @@ const NUMBERS: [(&str, &str); 8] = [
         "{window: {name: \"W\", items: -1}}",
         "4:29: fault 24: not a number: items",
     ),
-    (
-        "{skipto: 1.5}",
-        "4:10: fault 24: not a number: skipto",
-    ),
+    ("{skipto: 1.5}", "4:10: fault 24: not a number: skipto"),
     (
         "{reserved: \"four\"}",
         "4:12: fault 24: not a number: reserved",

@@ -7,10 +7,7 @@ use std::test::Fail;
 
 /// A block whose list at this key has so many elements, all alike.
 fn block_with_list(alloc: Global, key: &str, element: &str, count: u32) -> Result<Text, Memory> {
-    let mut document = Text::of(
-        alloc,
-        "{name: \"b\", bus_interfaces: [], registers: [], ",
-    )?;
+    let mut document = Text::of(alloc, "{name: \"b\", bus_interfaces: [], registers: [], ")?;
     if key != "clocking" {
         document.add("clocking: [{clock: \"c\"}], ")?;
     }

@@ -52,9 +52,11 @@ endmodule
 
 /// A block named `b` with one unnamed device interface and these entries.
 fn block_of(alloc: Global, entries: &str) -> Result<String, Fail> {
-    let text = format!(in alloc; "{{ name: 'b', clocking: [{{clock: 'clk_i', reset: 'rst_ni'}}]
+    let text = format!(in alloc;
+        "{{ name: 'b', clocking: [{{clock: 'clk_i', reset: 'rst_ni'}}]
   bus_interfaces: [{{protocol: 'tlul', direction: 'device'}}] // the only one
-  registers: [{entries}] }}")?;
+  registers: [{entries}] }}"
+    )?;
     Ok(text)
 }
 
@@ -75,7 +77,10 @@ fn one_register_is_written(rt: HostRuntime) -> Result<(), Fail> {
     assert_eq!(rt; ran.status, 0);
     assert_eq!(rt; ran.out.bytes(), b"built 1 0\n".as_slice());
     assert_eq!(rt; ran.err.bytes(), b"".as_slice());
-    assert_eq!(rt; store.file("out/gpio1_reg_top.sv"), Some(GPIO_TEXT.as_bytes()));
+    assert_eq!(rt;
+        store.file("out/gpio1_reg_top.sv"),
+        Some(GPIO_TEXT.as_bytes())
+    );
     Ok(())
 }
 
@@ -146,7 +151,8 @@ fn interfaces_have_a_text_each(rt: HostRuntime) -> Result<(), Fail> {
 
 #[test]
 fn a_block_without_a_device_interface_has_no_text(rt: HostRuntime) -> Result<(), Fail> {
-    let block = "{ name: 'cpu', clocking: [{clock: 'clk_i'}], bus_interfaces: [{protocol: 'tlul', direction: 'host'}], registers: [] }";
+    let block =
+        "{ name: 'cpu', clocking: [{clock: 'clk_i'}], bus_interfaces: [{protocol: 'tlul', direction: 'host'}], registers: [] }";
     let mut store = store_with(rt.alloc(), "b.hjson", block, &[], &[])?;
     let ran = ran_on(&rt, rt.alloc(), &REGTOOL, &mut store, &[])?;
     assert_eq!(rt; ran.status, 0);

@@ -4,7 +4,8 @@ use super::running::{REGTOOL, ran_on, store_with};
 use cg_base::{Sink, Store};
 use std::test::Fail;
 
-const BLOCK: &str = "{ name: 'b', clocking: [{clock: 'clk_i'}], bus_interfaces: [{protocol: 'tlul', direction: 'device'}]
+const BLOCK: &str =
+    "{ name: 'b', clocking: [{clock: 'clk_i'}], bus_interfaces: [{protocol: 'tlul', direction: 'device'}]
   registers: [{name: 'R', fields: [{bits: 0}]}] }";
 
 const OUTPUT: &str = "out/b_reg_top.sv";
@@ -60,7 +61,10 @@ fn an_absent_file_is_told(rt: HostRuntime) -> Result<(), Fail> {
     let mut store = store_with(rt.alloc(), "other", BLOCK, &[], &[])?;
     let ran = ran_on(&rt, rt.alloc(), &REGTOOL, &mut store, &[])?;
     assert_eq!(rt; ran.status, 1);
-    assert_eq!(rt; ran.err.bytes(), b"b.hjson:1:1: fault 10: file absent\n".as_slice());
+    assert_eq!(rt;
+        ran.err.bytes(),
+        b"b.hjson:1:1: fault 10: file absent\n".as_slice()
+    );
     Ok(())
 }
 

@@ -13,9 +13,10 @@ returns-in-Err-clause-clash c = λ n e.
 -- it has none, and is made
 pub loop-face-preserved : goal.loop-face-preserved
 loop-face-preserved c =
-    let h : c.loop-face.face < length c.args.laid.now.faces = omega (arith, c.loop-face-test.true, c.len-face-end.ensures) in
-    (rw c.in_ok-push-in-Ok.ensures.ok (made_more c.args.laid.now c.loop-face.face _ _ _ h c.in-Ok.ensures.made c.loop-face.invariant.0),
-      no_clash_here c.args.laid.now c.loop-face.face _ h c.in-Ok.ensures.apart c.loop-face.invariant.1)
+    let h : c.loop-face.face < length c.args.laid.now.faces = omega (arith, c.loop-face-test.true, c.len-face-end.ensures) in (
+      rw c.in_ok-push-in-Ok.ensures.ok (made_more c.args.laid.now c.loop-face.face _ _ _ h c.in-Ok.ensures.made c.loop-face.invariant.0),
+      no_clash_here c.args.laid.now c.loop-face.face _ h c.in-Ok.ensures.apart c.loop-face.invariant.1,
+    )
 
 -- all are made
 pub returns-clause-made : goal.returns-clause-made
