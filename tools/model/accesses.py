@@ -1,8 +1,9 @@
 """The clocks that a register module is tried with: accesses of all kinds at all its rows and beside them, with hardware's inputs."""
 from model.layout import Register
-from model.step import Clock, hardware_ports, target
+from model.step import BUS_PORTS, Clock, hardware_ports, target
 
 WORD = (1 << 32) - 1
+FEWEST_CLOCKS = 150
 CLOCKS = 400
 CLOCKS_BETWEEN_RESETS = 60
 VALUES = 1_000_000
@@ -47,10 +48,14 @@ def accesses(interface, chance):
 
 def clocks(interface, chance):
     """The clocks of a trial: a reset, accesses with resets among them, and a clock without one to see the last values."""
+    ports = BUS_PORTS + hardware_ports(interface)
     inputs = [(width, name) for direction, width, name in hardware_ports(interface) if direction == "input"]
-    most = max(50, min(CLOCKS, VALUES // (1 + len(hardware_ports(interface)))))
+    most = max(FEWEST_CLOCKS, min(CLOCKS, VALUES // len(ports)))
+    tried = []
+    while len(tried) < FEWEST_CLOCKS:
+        tried += accesses(interface, chance)
     made = []
-    for number, (write, read, address, strobes) in enumerate(accesses(interface, chance)[:most]):
+    for number, (write, read, address, strobes) in enumerate(tried[:most]):
         busy = chance.choice([0, 0.3, 1])
         hardware = {name: int(chance.random() < busy) if name.endswith("_de") else data_of(chance, width) for width, name in inputs}
         made.append(Clock(int(number % CLOCKS_BETWEEN_RESETS != 0), write, read, address | chance.choice([0, 0, 1, 2, 3]), data_of(chance, 32), strobes, hardware))

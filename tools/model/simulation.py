@@ -154,6 +154,8 @@ def account(block, clock):
     row = target(block.interface, clock.reg_addr)
     if not (clock.reg_we or clock.reg_re):
         return counts
+    if clock.reg_we:
+        counts[f"writes with strobes {clock.reg_be:04b}"] += 1
     if row is None:
         counts["accesses at unmapped addresses"] += 1
     elif not accepted(row, clock):
