@@ -1,6 +1,6 @@
-"""The clocks that a register module is tried with: accesses of all kinds at all its rows and beside them, with hardware's inputs."""
+"""The clocks that a register module is tried with: accesses at its rows and beside them, with hardware's inputs."""
 from model.layout import Register
-from model.step import BUS_PORTS, Clock, hardware_ports, target
+from model.step import Clock, hardware_ports, target
 
 WORD = (1 << 32) - 1
 FEWEST_CLOCKS = 150
@@ -25,7 +25,8 @@ def unmapped_addresses(interface, chance):
     """Addresses that reach no row: behind rows and windows, and those of rows with another bit above."""
     addresses = [interface.end, WORD & ~3, chance.getrandbits(32)]
     for row in interface.rows:
-        addresses += [row.offset + 4 * row.words, row.offset + row.size, row.offset ^ 1 << chance.randint(2, 31), row.offset ^ 1 << chance.randint(24, 31)]
+        bits = [chance.randint(2, 31), chance.randint(24, 31)]
+        addresses += [row.offset + 4 * row.words, row.offset + row.size, *(row.offset ^ (1 << bit) for bit in bits)]
     return [address for address in addresses if target(interface, address) is None]
 
 
@@ -47,17 +48,25 @@ def accesses(interface, chance):
 
 
 def clocks(interface, chance):
-    """The clocks of a trial: a reset, accesses with resets among them, and a clock without one to see the last values."""
-    ports = BUS_PORTS + hardware_ports(interface)
-    inputs = [(width, name) for direction, width, name in hardware_ports(interface) if direction == "input"]
-    most = max(FEWEST_CLOCKS, min(CLOCKS, VALUES // len(ports)))
+    """The clocks of a trial: accesses with resets among them, and a clock without an access to see the last values."""
+    ports = hardware_ports(interface)
+    inputs = [(width, name) for direction, width, name in ports if direction == "input"]
+    most = max(FEWEST_CLOCKS, min(CLOCKS, VALUES // (1 + len(ports))))
     tried = []
     while len(tried) < FEWEST_CLOCKS:
         tried += accesses(interface, chance)
     made = []
     for number, (write, read, address, strobes) in enumerate(tried[:most]):
-        busy = chance.choice([0, 0.3, 1])
-        hardware = {name: int(chance.random() < busy) if name.endswith("_de") else data_of(chance, width) for width, name in inputs}
-        made.append(Clock(int(number % CLOCKS_BETWEEN_RESETS != 0), write, read, address | chance.choice([0, 0, 1, 2, 3]), data_of(chance, 32), strobes, hardware))
+        no_reset = int(number % CLOCKS_BETWEEN_RESETS != 0)
+        byte_address = address | chance.choice([0, 0, 1, 2, 3])
+        data = data_of(chance, 32)
+        made.append(Clock(no_reset, write, read, byte_address, data, strobes, hardware_inputs(inputs, chance)))
     made.append(Clock(hardware={name: 0 for _, name in inputs}))
     return made
+
+
+def hardware_inputs(inputs, chance):
+    """What hardware brings in a clock, to no field, to some or to all."""
+    busy = chance.choice([0, 0.3, 1])
+    return {name: int(chance.random() < busy) if name.endswith("_de") else data_of(chance, width)
+            for width, name in inputs}

@@ -46,19 +46,29 @@ class Field:
         """Whether hardware writes a stored field."""
         return self.hardware in {"hwo", "hrw"}
 
+    def copy(self, number, shift):
+        """The copy of this number, shifted by so many bits."""
+        return dataclasses.replace(self, name=f"{self.name}_{number}", high=self.high + shift, low=self.low + shift)
+
 
 @dataclasses.dataclass(eq=False)
 class Register:
     """A register of an interface; `gate` is the field that lets writes have an effect, if any."""
     name: str
     fields: list
-    write_strobe: bool
-    read_strobe: bool
-    gate_name: str | None
+    write_strobe: bool = False
+    read_strobe: bool = False
+    gate_name: str | None = None
     gate: Field | None = None
     offset: int = 0
     words: int = 1
     size: int = 4
+
+    @property
+    def may_gate(self):
+        """Whether it is one stored, readable field of one bit."""
+        field = self.fields[0]
+        return len(self.fields) == 1 and field.width == 1 and field.readable and not field.external
 
     @property
     def bytes_needed(self):
@@ -77,13 +87,13 @@ class Window:
 
     @property
     def size(self):
-        """The least power of two that the words fit in: the bytes that it takes, and what its offset is a multiple of."""
+        """The bytes that it takes, the least power of two that its words fit in; its offset is a multiple of it."""
         return 4 << (self.words - 1).bit_length()
 
 
 @dataclasses.dataclass(eq=False)
 class Interface:
-    """A device interface: its name, if any, its rows in the order of their offsets, and where the next item may begin."""
+    """A device interface: its name, if any, its rows in the order of their offsets, and where the next may begin."""
     name: str | None
     rows: list
     end: int
@@ -110,19 +120,25 @@ def automatic_registers(description):
     registers = []
     interrupts = description.get("interrupt_list", [])
     if interrupts and not description.get("no_auto_intr_regs", False):
-        for name, hardware, external in [("INTR_STATE", "hrw", False), ("INTR_ENABLE", "hro", False), ("INTR_TEST", "hro", True)]:
-            fields, low = [], 0
-            for interrupt in interrupts:
-                software = {"INTR_STATE": "ro" if interrupt.get("type") == "status" else "rw1c", "INTR_ENABLE": "rw", "INTR_TEST": "wo"}[name]
-                high = low + interrupt.get("width", 1) - 1
-                fields.append(Field(interrupt["name"], high, low, software, hardware, 0, external))
-                low = high + 1
-            registers.append(Register(name, fields, False, False, None))
+        registers = [Register("INTR_STATE", interrupt_fields(interrupts, None, "hrw", False)),
+                     Register("INTR_ENABLE", interrupt_fields(interrupts, "rw", "hro", False)),
+                     Register("INTR_TEST", interrupt_fields(interrupts, "wo", "hro", True))]
     alerts = description.get("alert_list", [])
     if alerts and not description.get("no_auto_alert_regs", False):
         fields = [Field(alert["name"], bit, bit, "wo", "hro", 0, True) for bit, alert in enumerate(alerts)]
-        registers.append(Register("ALERT_TEST", fields, False, False, None))
+        registers.append(Register("ALERT_TEST", fields))
     return registers
+
+
+def interrupt_fields(interrupts, software, hardware, external):
+    """A field for each interrupt; without a kind of access it has that of its state, by the interrupt's type."""
+    fields, low = [], 0
+    for interrupt in interrupts:
+        state = "ro" if interrupt.get("type") == "status" else "rw1c"
+        high = low + interrupt.get("width", 1) - 1
+        fields.append(Field(interrupt["name"], high, low, software or state, hardware, 0, external))
+        low = high + 1
+    return fields
 
 
 def entry_items(entry, parameters):
@@ -131,7 +147,8 @@ def entry_items(entry, parameters):
         return copies(entry["multireg"], parameters)
     if "window" in entry:
         window = entry["window"]
-        return [Window(window["name"], number(window["items"], parameters), window.get("byte-write", False), window.get("swaccess", "rw"))]
+        items = number(window["items"], parameters)
+        return [Window(window["name"], items, window.get("byte-write", False), window.get("swaccess", "rw"))]
     if "skipto" in entry:
         return [("skipto", entry["skipto"])]
     if "reserved" in entry:
@@ -193,10 +210,9 @@ def copies(multireg, parameters):
     word_count = -(-count // in_a_word)
     words = []
     for word in range(word_count):
-        shifted = []
-        for copy in range(word * in_a_word, min(count, (word + 1) * in_a_word)):
-            shift = step * (copy - word * in_a_word)
-            shifted += [dataclasses.replace(field, name=f"{field.name}_{copy}", high=field.high + shift, low=field.low + shift) for field in fields]
+        first = word * in_a_word
+        places = range(min(in_a_word, count - first))
+        shifted = [field.copy(first + place, step * place) for place in places for field in fields]
         suffix = f"_{word}" if word_count > 1 else ""
         gate_name = multireg.get("regwen")
         if gate_name is not None and several_gates and count > 1:

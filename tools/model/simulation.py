@@ -8,6 +8,7 @@ import subprocess
 from model.layout import Register
 from model.step import BUS_PORTS, Block, accepted, field_ports, hardware_ports, stored_fields, target, window_ports
 
+SECONDS = 600
 FLOP = pathlib.Path(__file__).resolve().parent.parent / "prim_flop.sv"
 PORT = re.compile(r"^  (input|output) (?:\[([0-9]+):0\] )?(\w+),?$", re.MULTILINE)
 
@@ -34,7 +35,7 @@ def compare_ports(interface, text):
 
 @dataclasses.dataclass(frozen=True)
 class Net:
-    """A net that a testbench tells in each clock: its name, its place there, and the kind of check that its value is."""
+    """A net that a testbench tells in each clock: its name, its path there, and the kind of check that it is for."""
     name: str
     path: str
     kind: str
@@ -96,19 +97,28 @@ def bench_of(module, interface):
     kinds = {"q": "hardware views q", "qe": "write strobes qe", "re": "read strobes re"}
     for row in interface.rows:
         if isinstance(row, Register):
-            ports = [port for field in row.fields for port in field_ports(row, field)]
-            told += [Net(name, name, kinds[name.rsplit("_", 1)[1]]) for direction, _, name in ports if direction == "output"]
+            names = outputs([port for field in row.fields for port in field_ports(row, field)])
+            told += [Net(name, name, kinds[name.rsplit("_", 1)[1]]) for name in names]
         else:
-            told += [Net(name, name, "window outputs") for direction, _, name in window_ports(row) if direction == "output"]
+            told += [Net(name, name, "window outputs") for name in outputs(window_ports(row))]
     told += [Net(f"{field.net}_s", f"dut.{field.net}_s", "values of fields") for field in stored_fields(interface)]
     return Bench(module, BUS_PORTS[1:] + hardware_ports(interface), told)
 
 
+def outputs(ports):
+    """The names of the outputs among these ports."""
+    return [name for direction, _, name in ports if direction == "output"]
+
+
 def run(words, folder):
-    """Runs a command; what it says is a mismatch where it fails."""
-    done = subprocess.run(words, cwd=folder, stdin=subprocess.DEVNULL, capture_output=True, text=True)
+    """What a command says; a mismatch where it fails or does not end."""
+    try:
+        done = subprocess.run(words, cwd=folder, stdin=subprocess.DEVNULL, capture_output=True, text=True, timeout=SECONDS)
+    except subprocess.TimeoutExpired:
+        raise Mismatch(f"{' '.join(words)}: no end within {SECONDS} seconds") from None
     if done.returncode != 0:
-        raise Mismatch(f"{' '.join(words)}: status {done.returncode}\n{done.stdout}{done.stderr}")
+        raise Mismatch(f"{' '.join(words)}: status {done.returncode}\n{done.stdout}{done.stderr}".rstrip())
+    return done.stdout
 
 
 def simulate(bench, text_path, clocks, folder):
@@ -140,8 +150,9 @@ def compare_clocks(interface, bench, clocks, seen):
         values = expected_values(block, clock)
         for net, got in zip(bench.told, shown, strict=True):
             if net.name in values:
-                if f"{values[net.name]:x}" != (got.lstrip("0") or "0"):
-                    raise Mismatch(f"clock {number}, net {net.name}: expected {values[net.name]:#x}, got 0x{got}; {clock}")
+                expected = f"{values[net.name]:x}"
+                if expected != (got.lstrip("0") or "0"):
+                    raise Mismatch(f"clock {number}, net {net.name}: expected 0x{expected}, got 0x{got}; {clock}")
                 counts[net.kind if clock.rst_ni else f"{net.kind} in reset"] += 1
         counts += account(block, clock)
         block.pass_clock(clock)

@@ -24,7 +24,7 @@ def gap(chance):
 
 
 def closed(text, chance):
-    """A value or member that something may follow: behind a number, a boolean or an unquoted string something must close it."""
+    """A value or member that another may follow: a number or boolean without quotes must be closed."""
     if text.endswith(("\n", '"', "'", "}", "]")):
         return text + chance.choice(["", " ", "\n", ", ", ",\n"])
     return text + chance.choice([",", ", ", "\n", " # closed\n", "\t// closed\n", " /* closed */"])
@@ -57,7 +57,8 @@ def member_text(key, value, chance):
 
 def number_text(value, chance):
     """A number, as such or as a string."""
-    text = chance.choice([f"{value}", f"{value:#x}", f"{value:#X}", f"{value:#b}", f"{value:_}", f"{value:#_x}", f"00{value}"])
+    forms = ["{}", "{:#x}", "{:#X}", "{:#b}", "{:_}", "{:#_x}", "00{}"]
+    text = chance.choice(forms).format(value)
     if text == f"{value}" and chance.random() < 0.7:
         return text
     return chance.choice([f'"{text}"', f"'{text}'"])

@@ -5,8 +5,9 @@ from model.layout import Register
 
 ALL_ONES = 0xFFFFFFFF
 BUS_PORTS = [
-    ("input", 1, "clk_i"), ("input", 1, "rst_ni"), ("input", 1, "reg_we"), ("input", 1, "reg_re"), ("input", 32, "reg_addr"),
-    ("input", 32, "reg_wdata"), ("input", 4, "reg_be"), ("output", 32, "reg_rdata"), ("output", 1, "reg_error"),
+    ("input", 1, "clk_i"), ("input", 1, "rst_ni"), ("input", 1, "reg_we"), ("input", 1, "reg_re"),
+    ("input", 32, "reg_addr"), ("input", 32, "reg_wdata"), ("input", 4, "reg_be"),
+    ("output", 32, "reg_rdata"), ("output", 1, "reg_error"),
 ]
 
 
@@ -23,7 +24,8 @@ class Clock:
 
     def __str__(self):
         access = "write of {0:#x}" if self.reg_we else "read" if self.reg_re else "no access, {0:#x}"
-        return f"{access.format(self.reg_wdata)} at {self.reg_addr:#x}, strobes {self.reg_be:04b}" + ("" if self.rst_ni else ", in reset")
+        reset = "" if self.rst_ni else ", in reset"
+        return f"{access.format(self.reg_wdata)} at {self.reg_addr:#x}, strobes {self.reg_be:04b}{reset}"
 
     def value(self, net):
         """What the input net holds."""
@@ -56,7 +58,8 @@ def field_ports(row, field):
     else:
         kinds = {"q": field.seen, "qe": row.write_strobe, "re": row.read_strobe, "d": field.driven, "de": field.driven}
     widths = {"q": field.width, "d": field.width}
-    return [("input" if kind in {"d", "de"} else "output", widths.get(kind, 1), f"{field.net}_{kind}") for kind, there in kinds.items() if there]
+    return [("input" if kind in {"d", "de"} else "output", widths.get(kind, 1), f"{field.net}_{kind}")
+            for kind, there in kinds.items() if there]
 
 
 def stored_fields(interface):
