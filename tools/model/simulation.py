@@ -24,7 +24,7 @@ def module_name(block, interface):
 
 def compare_ports(interface, text):
     """Counts the module's ports, which must be those of the model in their order."""
-    head = text[:text.index(");")]
+    head = text.partition(");")[0]
     found = [(direction, int(high) + 1 if high else 1, name) for direction, high, name in PORT.findall(head)]
     expected = BUS_PORTS + hardware_ports(interface)
     for place, (left, right) in enumerate(zip(expected + [None], found + [None])):
@@ -113,7 +113,8 @@ def outputs(ports):
 def run(words, folder):
     """What a command says; a mismatch where it fails or does not end."""
     try:
-        done = subprocess.run(words, cwd=folder, stdin=subprocess.DEVNULL, capture_output=True, text=True, timeout=SECONDS)
+        done = subprocess.run(words, cwd=folder, stdin=subprocess.DEVNULL, capture_output=True, text=True,
+                              timeout=SECONDS)
     except subprocess.TimeoutExpired:
         raise Mismatch(f"{' '.join(words)}: no end within {SECONDS} seconds") from None
     if done.returncode != 0:
