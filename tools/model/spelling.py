@@ -57,7 +57,7 @@ def member_text(key, value, chance):
 
 def number_text(value, chance):
     """A number, as such or as a string."""
-    forms = ["{}", "{:#x}", "{:#X}", "{:#b}", "{:_}", "{:#_x}", "00{}"]
+    forms = ["{}", "{:#x}", "{:#X}", "{:#b}", "0B{:b}", "{:_}", "{:#_x}", "00{}"]
     text = chance.choice(forms).format(value)
     if text == f"{value}" and chance.random() < 0.7:
         return text
