@@ -1,0 +1,72 @@
+"""The clocks that a register module is tried with: accesses at its rows and beside them, with hardware's inputs."""
+from model.layout import Register
+from model.step import Clock, hardware_ports, target
+
+WORD = (1 << 32) - 1
+FEWEST_CLOCKS = 150
+CLOCKS = 400
+CLOCKS_BETWEEN_RESETS = 60
+VALUES = 1_000_000
+
+
+def data_of(chance, width):
+    """Data of this width; zeros, ones and single bits come often."""
+    ones = (1 << width) - 1
+    return chance.choice([0, ones, 1 << chance.randrange(width), chance.getrandbits(width), chance.getrandbits(width)])
+
+
+def row_addresses(row, chance):
+    """Addresses that reach the row."""
+    words = {0, row.words - 1, chance.randrange(row.words)}
+    return sorted(row.offset + 4 * word for word in words)
+
+
+def unmapped_addresses(interface, chance):
+    """Addresses that reach no row: behind rows and windows, and those of rows with another bit above."""
+    addresses = [interface.end, WORD & ~3, chance.getrandbits(32)]
+    for row in interface.rows:
+        bits = [chance.randint(2, 31), chance.randint(24, 31)]
+        addresses += [row.offset + 4 * row.words, row.offset + row.size, *(row.offset ^ (1 << bit) for bit in bits)]
+    return [address for address in addresses if target(interface, address) is None]
+
+
+def accesses(interface, chance):
+    """All accesses that the interface is to be tried with, as (write, read, address, strobes), in a random order."""
+    made = []
+    for row in interface.rows:
+        addresses = row_addresses(row, chance)
+        made += [(1, 0, address, strobes) for address in addresses[:1] for strobes in range(16)]
+        made += [(1, 0, address, 0b1111) for address in addresses]
+        made += [(0, 1, address, strobes) for address in addresses for strobes in (0b1111, chance.randrange(16))]
+        made.append((0, 0, addresses[0], 0b1111))
+        if isinstance(row, Register):
+            made += [(1, 0, row.offset, 0b1111), (0, 1, row.offset, 0b1111)] * 3
+    for address in unmapped_addresses(interface, chance):
+        made += [(1, 0, address, chance.choice([0b1111, chance.randrange(16)])), (0, 1, address, 0b1111)]
+    chance.shuffle(made)
+    return made
+
+
+def clocks(interface, chance):
+    """The clocks of a trial: accesses with resets among them, and a clock without an access to see the last values."""
+    ports = hardware_ports(interface)
+    inputs = [(width, name) for direction, width, name in ports if direction == "input"]
+    most = max(FEWEST_CLOCKS, min(CLOCKS, VALUES // (1 + len(ports))))
+    tried = []
+    while len(tried) < FEWEST_CLOCKS:
+        tried += accesses(interface, chance)
+    made = []
+    for number, (write, read, address, strobes) in enumerate(tried[:most]):
+        no_reset = int(number % CLOCKS_BETWEEN_RESETS != 0)
+        byte_address = address | chance.choice([0, 0, 1, 2, 3])
+        data = data_of(chance, 32)
+        made.append(Clock(no_reset, write, read, byte_address, data, strobes, hardware_inputs(inputs, chance)))
+    made.append(Clock(hardware={name: 0 for _, name in inputs}))
+    return made
+
+
+def hardware_inputs(inputs, chance):
+    """What hardware brings in a clock, to no field, to some or to all."""
+    busy = chance.choice([0, 0.3, 1])
+    return {name: int(chance.random() < busy) if name.endswith("_de") else data_of(chance, width)
+            for width, name in inputs}

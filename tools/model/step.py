@@ -1,0 +1,181 @@
+"""What a register block does in a clock, and the ports that its module has."""
+import dataclasses
+
+from model.layout import Register
+
+ALL_ONES = 0xFFFFFFFF
+BUS_PORTS = [
+    ("input", 1, "clk_i"), ("input", 1, "rst_ni"), ("input", 1, "reg_we"), ("input", 1, "reg_re"),
+    ("input", 32, "reg_addr"), ("input", 32, "reg_wdata"), ("input", 4, "reg_be"),
+    ("output", 32, "reg_rdata"), ("output", 1, "reg_error"),
+]
+
+
+@dataclasses.dataclass
+class Clock:
+    """A clock's inputs: reset, an access, and what hardware brings to each input net of its own."""
+    rst_ni: int = 1
+    reg_we: int = 0
+    reg_re: int = 0
+    reg_addr: int = 0
+    reg_wdata: int = 0
+    reg_be: int = 0
+    hardware: dict = dataclasses.field(default_factory=dict)
+
+    def __str__(self):
+        access = "write of {0:#x}" if self.reg_we else "read" if self.reg_re else "no access, {0:#x}"
+        reset = "" if self.rst_ni else ", in reset"
+        return f"{access.format(self.reg_wdata)} at {self.reg_addr:#x}, strobes {self.reg_be:04b}{reset}"
+
+    def value(self, net):
+        """What the input net holds."""
+        return self.hardware[net] if net in self.hardware else getattr(self, net)
+
+
+def hardware_ports(interface):
+    """The ports to hardware, row by row."""
+    ports = []
+    for row in interface.rows:
+        if isinstance(row, Register):
+            for field in row.fields:
+                ports += field_ports(row, field)
+        else:
+            ports += window_ports(row)
+    return ports
+
+
+def window_ports(row):
+    """The ports of a window."""
+    net = f"win_{row.name.lower()}"
+    return [("output", 1, f"{net}_we"), ("output", 1, f"{net}_re"), ("output", 32, f"{net}_addr"),
+            ("output", 32, f"{net}_wdata"), ("output", 4, f"{net}_be"), ("input", 32, f"{net}_rdata")]
+
+
+def field_ports(row, field):
+    """The ports of a field, those of `_q`, `_qe`, `_re`, `_d` and `_de` that it has."""
+    if field.external:
+        kinds = {"q": field.writable, "qe": field.writable, "re": field.readable, "d": field.readable, "de": False}
+    else:
+        kinds = {"q": field.seen, "qe": row.write_strobe, "re": row.read_strobe, "d": field.driven, "de": field.driven}
+    widths = {"q": field.width, "d": field.width}
+    return [("input" if kind in {"d", "de"} else "output", widths.get(kind, 1), f"{field.net}_{kind}")
+            for kind, there in kinds.items() if there]
+
+
+def stored_fields(interface):
+    """The fields that the block itself stores."""
+    return [field for row in interface.rows if isinstance(row, Register) for field in row.fields if not field.external]
+
+
+def target(interface, address):
+    """The row that an address reaches, if any."""
+    word = address & ~3
+    for row in interface.rows:
+        if row.offset <= word < row.offset + 4 * row.words:
+            return row
+    return None
+
+
+def accepted(row, clock):
+    """Whether the access of a clock is done at its row."""
+    if row is None or not (clock.reg_we or clock.reg_re):
+        return False
+    if isinstance(row, Register):
+        needed = (1 << row.bytes_needed) - 1
+        return bool(clock.reg_re) or clock.reg_be & needed == needed
+    if clock.reg_re:
+        return row.software != "wo"
+    return row.software != "ro" and (row.byte_write or clock.reg_be == 0b1111)
+
+
+class Block:
+    """The values of an interface's stored fields, as they stand before a clock."""
+
+    def __init__(self, interface):
+        self.interface = interface
+        self.stored = stored_fields(interface)
+        self.outputs = {name for direction, _, name in hardware_ports(interface) if direction == "output"}
+        self.values = {}
+        self.reset()
+
+    def reset(self):
+        """Each field has its reset value."""
+        self.values = {field: field.reset for field in self.stored}
+
+    def effect(self, clock):
+        """The row that is written with effect, and the row that is read, each None where there is none."""
+        row = target(self.interface, clock.reg_addr)
+        if not accepted(row, clock):
+            return None, None
+        if clock.reg_re:
+            return None, row
+        is_open = not isinstance(row, Register) or row.gate is None or self.values[row.gate] != 0
+        return row if is_open else None, None
+
+    def word(self, row, clock):
+        """What a read of the row shows."""
+        if not isinstance(row, Register):
+            return clock.value(f"win_{row.name.lower()}_rdata")
+        shown = 0
+        for field in row.fields:
+            if field.readable:
+                value = clock.value(f"{field.net}_d") if field.external else self.values[field]
+                shown |= value << field.low
+        return shown
+
+    def answer(self, clock):
+        """Whether the clock's access is an error, and its read data, or None where nothing is said of them."""
+        row = target(self.interface, clock.reg_addr)
+        if (clock.reg_we or clock.reg_re) and not accepted(row, clock):
+            return 1, ALL_ONES
+        return 0, self.word(row, clock) if clock.reg_re else None
+
+    def views(self, clock):
+        """What hardware sees in the clock, by the nets' names."""
+        written, read = self.effect(clock)
+        seen = {}
+        for row in self.interface.rows:
+            strobes = int(row is written), int(row is read)
+            if isinstance(row, Register):
+                for field in row.fields:
+                    value = (clock.reg_wdata >> field.low) & field.ones if field.external else self.values[field]
+                    seen.update(zip([f"{field.net}_q", f"{field.net}_qe", f"{field.net}_re"], [value, *strobes]))
+            else:
+                nets = [f"win_{row.name.lower()}_{kind}" for kind in ["we", "re", "addr", "wdata", "be"]]
+                seen.update(zip(nets, [*strobes, clock.reg_addr, clock.reg_wdata, clock.reg_be]))
+        return {net: value for net, value in seen.items() if net in self.outputs}
+
+    def pass_clock(self, clock):
+        """Each stored field takes its next value."""
+        if not clock.rst_ni:
+            self.reset()
+            return
+        written, read = self.effect(clock)
+        following = {}
+        for row in self.interface.rows:
+            for field in row.fields if isinstance(row, Register) else []:
+                if not field.external:
+                    following[field] = self.next_value(field, row is written, row is read, clock)
+        self.values = following
+
+    def next_value(self, field, written, read, clock):
+        """The value of a stored field after the clock: hardware's or its own, then changed by software's access."""
+        held = self.values[field]
+        if field.driven and clock.value(f"{field.net}_de"):
+            held = clock.value(f"{field.net}_d")
+        data = (clock.reg_wdata >> field.low) & field.ones
+        if field.software == "rc":
+            return 0 if read else held
+        if not written:
+            return held
+        match field.software:
+            case "rw" | "wo":
+                return data
+            case "rw1s":
+                return held | data
+            case "rw1c" | "r0w1c":
+                return held & ~data
+            case "rw0c":
+                return held & data
+            case _:
+                return held
