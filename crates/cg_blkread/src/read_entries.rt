@@ -9,7 +9,7 @@ ghost use Rattle.cg_blkread.specs.Reads.{raw_entries};
 use crate::entry_lists::{EntryList, entry_lists};
 use crate::parameters::Parameters;
 use crate::raw::{RawEntry, RawMultireg, RawRegister, RawWindow};
-use crate::read_fields::{is_true, read_fields, register_reset, shared_of};
+use crate::read_fields::{is_true, register_reset, shared_of, written_fields};
 use cg_base::{List, Memory, Text};
 use cg_desc::SwAccess;
 use cg_hjson::{Member, Tree};
@@ -35,7 +35,7 @@ fn read_register(alloc: Global, tree: &Tree) -> Result<RawRegister, Memory>
 {
     let members = members(tree);
     let shared = shared_of(members);
-    let fields = read_fields(alloc, &shared, elements(members, "fields"))?;
+    let fields = written_fields(alloc, &shared, elements(members, "fields"))?;
     let name = Text::of(alloc, text_at(members, "name").unwrap_or(""))?;
     let regwen = copy_of(alloc, text_at(members, "regwen"))?;
     Ok(RawRegister {
@@ -53,8 +53,9 @@ fn read_register(alloc: Global, tree: &Tree) -> Result<RawRegister, Memory>
     })
 }
 
+/// Whether the copies of a multireg with these members are compacted.
 #[tactic(auto, unfolding(crate::specs::Raw::is_compact))]
-fn is_compact(members: &[Member]) -> bool
+pub fn is_compact(members: &[Member]) -> bool
     ensures { result ≡ is_compact members.now }
 {
     elements(members, "fields").len() == 1

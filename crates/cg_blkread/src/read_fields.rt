@@ -22,7 +22,7 @@ use std::alloc::Global;
 
 /// What a field takes from its register: its name where the field is the only one, and its kinds.
 #[derive(Clone, Copy)]
-pub(crate) struct Shared<'a> {
+pub struct Shared<'a> {
     pub name: &'a str,
     pub sw: SwAccess,
     pub hw: HwAccess,
@@ -30,7 +30,7 @@ pub(crate) struct Shared<'a> {
 }
 
 /// Whether a key is there and true.
-pub(crate) fn is_true(members: &[Member], key: &str) -> bool
+pub fn is_true(members: &[Member], key: &str) -> bool
     ensures { result ≡ is_true key.now members.now }
 {
     boolean_at(members, key).unwrap_or(false)
@@ -38,7 +38,7 @@ pub(crate) fn is_true(members: &[Member], key: &str) -> bool
 
 /// What the register with these members has for its fields.
 #[tactic(auto, unfolding(crate::specs::Raw::shared_of))]
-pub(crate) fn shared_of(members: &[Member]) -> Shared<'_>
+pub fn shared_of(members: &[Member]) -> Shared<'_>
     ensures { shared_view result ≡ shared_of members.now }
 {
     Shared {
@@ -93,7 +93,7 @@ fn boolean_or_number(mubi: bool, truth: Option<bool>, number: Option<u32>) -> Op
 
 /// The reset value of a register: a number, or 1 for true and 0 for false.
 #[tactic(auto, unfolding(crate::specs::Raw::register_reset))]
-pub(crate) fn register_reset(members: &[Member]) -> Option<u32>
+pub fn register_reset(members: &[Member]) -> Option<u32>
     ensures { result ≡ register_reset members.now }
 {
     boolean_or_number(
@@ -162,7 +162,7 @@ fn read_field(
 }
 
 /// The fields of a list, in written order.
-pub(crate) fn read_fields(
+pub fn written_fields(
     alloc: Global,
     shared: &Shared,
     items: &[Tree],

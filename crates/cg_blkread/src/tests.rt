@@ -3,6 +3,7 @@
 
 mod blocks;
 mod described;
+mod edges;
 mod keys;
 mod lengths;
 mod profile;
@@ -46,8 +47,32 @@ fn block_with(alloc: Global, entries: &str) -> Result<Text, Fail> {
     Ok(document)
 }
 
-/// The line of the fault by which a block with these entries is refused, or `none`.
-fn told_of_entries(alloc: Global, entries: &str) -> Result<Text, Fail> {
-    let document = block_with(alloc, entries)?;
-    told(alloc, document.as_str())
+/// Tells where a line is not the one that is wanted in `b.hjson`.
+fn compare(alloc: Global, document: &str, want: &str, wrong: &mut Text) -> Result<(), Fail> {
+    let line = told(alloc, document)?;
+    let want = format!(in alloc; "b.hjson:{want}")?;
+    if line.as_str() != want.as_str() {
+        let note = format!(in alloc; "{line} and not {want} in {document}\n")?;
+        wrong.add(note.as_str())?;
+    }
+    Ok(())
+}
+
+/// The blocks of these that are not refused by the line beside them.
+fn wrong_blocks(alloc: Global, cases: &[(&str, &str)]) -> Result<Text, Fail> {
+    let mut wrong = Text::new(alloc);
+    for (document, want) in cases {
+        compare(alloc, document, want, &mut wrong)?;
+    }
+    Ok(wrong)
+}
+
+/// The blocks with these entries that are not refused by the line beside them.
+fn wrong_entries(alloc: Global, cases: &[(&str, &str)]) -> Result<Text, Fail> {
+    let mut wrong = Text::new(alloc);
+    for (entries, want) in cases {
+        let document = block_with(alloc, entries)?;
+        compare(alloc, document.as_str(), want, &mut wrong)?;
+    }
+    Ok(wrong)
 }

@@ -1,6 +1,6 @@
 //! Blocks that break a rule outside their entries.
 
-use super::told;
+use super::wrong_blocks;
 use std::test::Fail;
 
 // Keys of a block and of its lists.
@@ -92,14 +92,14 @@ const KEYS: [(&str, &str); 22] = [
     ),
 ];
 
+fn keys_cases() -> &'static [(&'static str, &'static str)] {
+    &KEYS
+}
+
 #[test]
 fn keys_of_blocks_are_told(rt: HostRuntime) -> Result<(), Fail> {
-    let alloc = rt.alloc();
-    for (document, want) in KEYS {
-        let line = told(alloc, document)?;
-        let want = format!(in alloc; "b.hjson:{want}")?;
-        assert_eq!(rt; line.as_str(), want.as_str(), "in {document}");
-    }
+    let wrong = wrong_blocks(rt.alloc(), keys_cases())?;
+    assert_eq!(rt; wrong.as_str(), "");
     Ok(())
 }
 
@@ -143,14 +143,14 @@ const SHAPES: [(&str, &str); 9] = [
     ),
 ];
 
+fn shapes_cases() -> &'static [(&'static str, &'static str)] {
+    &SHAPES
+}
+
 #[test]
 fn shapes_of_registers_are_told(rt: HostRuntime) -> Result<(), Fail> {
-    let alloc = rt.alloc();
-    for (document, want) in SHAPES {
-        let line = told(alloc, document)?;
-        let want = format!(in alloc; "b.hjson:{want}")?;
-        assert_eq!(rt; line.as_str(), want.as_str(), "in {document}");
-    }
+    let wrong = wrong_blocks(rt.alloc(), shapes_cases())?;
+    assert_eq!(rt; wrong.as_str(), "");
     Ok(())
 }
 
@@ -174,14 +174,14 @@ const INTERFACES: [(&str, &str); 4] = [
     ),
 ];
 
+fn interfaces_cases() -> &'static [(&'static str, &'static str)] {
+    &INTERFACES
+}
+
 #[test]
 fn names_of_interfaces_are_told(rt: HostRuntime) -> Result<(), Fail> {
-    let alloc = rt.alloc();
-    for (document, want) in INTERFACES {
-        let line = told(alloc, document)?;
-        let want = format!(in alloc; "b.hjson:{want}")?;
-        assert_eq!(rt; line.as_str(), want.as_str(), "in {document}");
-    }
+    let wrong = wrong_blocks(rt.alloc(), interfaces_cases())?;
+    assert_eq!(rt; wrong.as_str(), "");
     Ok(())
 }
 
@@ -209,19 +209,20 @@ const NOT_READ: [(&str, &str); 5] = [
     ),
 ];
 
+fn not_read_cases() -> &'static [(&'static str, &'static str)] {
+    &NOT_READ
+}
+
 #[test]
 fn malformed_interfaces_are_told_alone(rt: HostRuntime) -> Result<(), Fail> {
-    let alloc = rt.alloc();
-    for (document, want) in NOT_READ {
-        let line = told(alloc, document)?;
-        let want = format!(in alloc; "b.hjson:{want}")?;
-        assert_eq!(rt; line.as_str(), want.as_str(), "in {document}");
-    }
+    let wrong = wrong_blocks(rt.alloc(), not_read_cases())?;
+    assert_eq!(rt; wrong.as_str(), "");
     Ok(())
 }
 
-// The first parameter of a name hides later ones, also where it has no number; and lists of two interfaces.
-const PARAMETERS: [(&str, &str); 4] = [
+// The first parameter of a name hides later ones, also where it has no number; lists of two interfaces; and a document
+// with quoted keys over several lines.
+const VALUES: [(&str, &str); 5] = [
     (
         "{name: \"b\", clocking: [{clock: \"c\"}], bus_interfaces: [{protocol: \"tlul\", direction: \"device\"}], param_list: [{name: \"N\"}, {name: \"N\", default: 4}],\n registers: [{window: {name: \"W\", items: \"N\"}}]}",
         "2:42: fault 40: bad window: W",
@@ -238,15 +239,19 @@ const PARAMETERS: [(&str, &str); 4] = [
         "{name: \"b\", clocking: [{clock: \"c\"}], bus_interfaces: [{protocol: \"tlul\", direction: \"device\", name: \"x\"}, {protocol: \"tlul\", direction: \"device\", name: \"y\"}],\n registers: {x: [{name: \"R\", fields: [{bits: 0}]}], y: [{name: \"S\", fields: []}]}}",
         "2:77: fault 33: no fields or items: S",
     ),
+    (
+        "{\"name\": \"ta\", \"clocking\": [{\"clock\": \"clk_i\", \"reset\": \"rst_ni\"}],\n \"bus_interfaces\": [{\"protocol\": \"tlul\", \"direction\": \"device\"}],\n \"interrupt_list\": [{\"name\": \"i\"}],\n \"registers\": [{\"name\": \"R\", \"swaccess\": \"rw\", \"fields\": [\n    {\"bits\": \"3:0\", \"name\": \"A\"},\n    {\"bits\": \"4:3\", \"name\": \"B\"}\n ]}]}\n",
+        "6:14: fault 31: fields overlap: B",
+    ),
 ];
 
+fn values_cases() -> &'static [(&'static str, &'static str)] {
+    &VALUES
+}
+
 #[test]
-fn parameters_that_count_are_told(rt: HostRuntime) -> Result<(), Fail> {
-    let alloc = rt.alloc();
-    for (document, want) in PARAMETERS {
-        let line = told(alloc, document)?;
-        let want = format!(in alloc; "b.hjson:{want}")?;
-        assert_eq!(rt; line.as_str(), want.as_str(), "in {document}");
-    }
+fn values_of_blocks_are_told(rt: HostRuntime) -> Result<(), Fail> {
+    let wrong = wrong_blocks(rt.alloc(), values_cases())?;
+    assert_eq!(rt; wrong.as_str(), "");
     Ok(())
 }

@@ -321,17 +321,21 @@ skip 8
     ),
 ];
 
+fn entries_cases() -> &'static [(&'static str, &'static str)] {
+    &ENTRIES
+}
+
 #[test]
 fn entries_are_described(rt: HostRuntime) -> Result<(), Fail> {
     let alloc = rt.alloc();
-    for (entries, want) in ENTRIES {
+    for (entries, want) in entries_cases() {
         let document = block_with(alloc, entries)?;
         let block = description(alloc, document.as_str())?;
         let mut shown = String::new(alloc);
         for device in block.faces.as_slice() {
             show_entries(&device.entries, &mut shown)?;
         }
-        assert_eq!(rt; shown.as_str(), want, "of {entries}");
+        assert_eq!(rt; shown.as_str(), *want, "of {entries}");
     }
     Ok(())
 }
@@ -399,15 +403,19 @@ auto alerts
     ),
 ];
 
+fn blocks_cases() -> &'static [(&'static str, &'static str)] {
+    &BLOCKS
+}
+
 #[test]
 fn blocks_are_described(rt: HostRuntime) -> Result<(), Fail> {
     let alloc = rt.alloc();
-    for (document, want) in BLOCKS {
+    for (document, want) in blocks_cases() {
         let block = description(alloc, document)?;
         let mut shown = String::new(alloc);
         show_block(&block, &mut shown)?;
         assert_eq!(rt; block.file, 7);
-        assert_eq!(rt; shown.as_str(), want, "of {document}");
+        assert_eq!(rt; shown.as_str(), *want, "of {document}");
     }
     Ok(())
 }

@@ -1,6 +1,6 @@
 //! Entries that break a rule on keys and kinds.
 
-use super::told_of_entries;
+use super::wrong_entries;
 use std::test::Fail;
 
 // A key stands twice; at the later key.
@@ -27,14 +27,14 @@ const TWICE: [(&str, &str); 5] = [
     ),
 ];
 
+fn twice_cases() -> &'static [(&'static str, &'static str)] {
+    &TWICE
+}
+
 #[test]
 fn keys_that_stand_twice_are_told(rt: HostRuntime) -> Result<(), Fail> {
-    let alloc = rt.alloc();
-    for (entries, want) in TWICE {
-        let line = told_of_entries(alloc, entries)?;
-        let want = format!(in alloc; "b.hjson:{want}")?;
-        assert_eq!(rt; line.as_str(), want.as_str(), "in {entries}");
-    }
+    let wrong = wrong_entries(rt.alloc(), twice_cases())?;
+    assert_eq!(rt; wrong.as_str(), "");
     Ok(())
 }
 
@@ -64,14 +64,14 @@ const MISSING: [(&str, &str); 10] = [
     ("{sameaddr: []}", "4:1: fault 21: missing key: fields"),
 ];
 
+fn missing_cases() -> &'static [(&'static str, &'static str)] {
+    &MISSING
+}
+
 #[test]
 fn missing_keys_are_told(rt: HostRuntime) -> Result<(), Fail> {
-    let alloc = rt.alloc();
-    for (entries, want) in MISSING {
-        let line = told_of_entries(alloc, entries)?;
-        let want = format!(in alloc; "b.hjson:{want}")?;
-        assert_eq!(rt; line.as_str(), want.as_str(), "in {entries}");
-    }
+    let wrong = wrong_entries(rt.alloc(), missing_cases())?;
+    assert_eq!(rt; wrong.as_str(), "");
     Ok(())
 }
 
@@ -159,14 +159,14 @@ const KINDS: [(&str, &str); 23] = [
     ),
 ];
 
+fn kinds_cases() -> &'static [(&'static str, &'static str)] {
+    &KINDS
+}
+
 #[test]
 fn wrong_kinds_are_told(rt: HostRuntime) -> Result<(), Fail> {
-    let alloc = rt.alloc();
-    for (entries, want) in KINDS {
-        let line = told_of_entries(alloc, entries)?;
-        let want = format!(in alloc; "b.hjson:{want}")?;
-        assert_eq!(rt; line.as_str(), want.as_str(), "in {entries}");
-    }
+    let wrong = wrong_entries(rt.alloc(), kinds_cases())?;
+    assert_eq!(rt; wrong.as_str(), "");
     Ok(())
 }
 
@@ -203,14 +203,14 @@ const NUMBERS: [(&str, &str); 8] = [
     ),
 ];
 
+fn numbers_cases() -> &'static [(&'static str, &'static str)] {
+    &NUMBERS
+}
+
 #[test]
 fn wrong_numbers_are_told(rt: HostRuntime) -> Result<(), Fail> {
-    let alloc = rt.alloc();
-    for (entries, want) in NUMBERS {
-        let line = told_of_entries(alloc, entries)?;
-        let want = format!(in alloc; "b.hjson:{want}")?;
-        assert_eq!(rt; line.as_str(), want.as_str(), "in {entries}");
-    }
+    let wrong = wrong_entries(rt.alloc(), numbers_cases())?;
+    assert_eq!(rt; wrong.as_str(), "");
     Ok(())
 }
 
@@ -238,13 +238,13 @@ const NAMES: [(&str, &str); 5] = [
     ),
 ];
 
+fn names_cases() -> &'static [(&'static str, &'static str)] {
+    &NAMES
+}
+
 #[test]
 fn wrong_names_are_told(rt: HostRuntime) -> Result<(), Fail> {
-    let alloc = rt.alloc();
-    for (entries, want) in NAMES {
-        let line = told_of_entries(alloc, entries)?;
-        let want = format!(in alloc; "b.hjson:{want}")?;
-        assert_eq!(rt; line.as_str(), want.as_str(), "in {entries}");
-    }
+    let wrong = wrong_entries(rt.alloc(), names_cases())?;
+    assert_eq!(rt; wrong.as_str(), "");
     Ok(())
 }

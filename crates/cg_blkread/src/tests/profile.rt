@@ -1,6 +1,6 @@
 //! Entries that are outside the profile.
 
-use super::told_of_entries;
+use super::wrong_entries;
 use std::test::Fail;
 
 // A key that stands outside the profile by its presence or its value; at the value.
@@ -67,14 +67,14 @@ const OUTSIDE: [(&str, &str); 15] = [
     ),
 ];
 
+fn outside_cases() -> &'static [(&'static str, &'static str)] {
+    &OUTSIDE
+}
+
 #[test]
 fn what_is_outside_is_told(rt: HostRuntime) -> Result<(), Fail> {
-    let alloc = rt.alloc();
-    for (entries, want) in OUTSIDE {
-        let line = told_of_entries(alloc, entries)?;
-        let want = format!(in alloc; "b.hjson:{want}")?;
-        assert_eq!(rt; line.as_str(), want.as_str(), "in {entries}");
-    }
+    let wrong = wrong_entries(rt.alloc(), outside_cases())?;
+    assert_eq!(rt; wrong.as_str(), "");
     Ok(())
 }
 
@@ -114,13 +114,13 @@ const NOT_READ: [(&str, &str); 8] = [
     ),
 ];
 
+fn not_read_cases() -> &'static [(&'static str, &'static str)] {
+    &NOT_READ
+}
+
 #[test]
 fn what_is_malformed_is_not_read_further(rt: HostRuntime) -> Result<(), Fail> {
-    let alloc = rt.alloc();
-    for (entries, want) in NOT_READ {
-        let line = told_of_entries(alloc, entries)?;
-        let want = format!(in alloc; "b.hjson:{want}")?;
-        assert_eq!(rt; line.as_str(), want.as_str(), "in {entries}");
-    }
+    let wrong = wrong_entries(rt.alloc(), not_read_cases())?;
+    assert_eq!(rt; wrong.as_str(), "");
     Ok(())
 }

@@ -1,6 +1,6 @@
 //! Entries that break a rule on bits, reset values and counts.
 
-use super::told_of_entries;
+use super::wrong_entries;
 use std::test::Fail;
 
 // Bits that are none; at the bits, with the register's name.
@@ -51,14 +51,14 @@ const BITS: [(&str, &str); 11] = [
     ),
 ];
 
+fn bits_cases() -> &'static [(&'static str, &'static str)] {
+    &BITS
+}
+
 #[test]
 fn bad_bits_are_told(rt: HostRuntime) -> Result<(), Fail> {
-    let alloc = rt.alloc();
-    for (entries, want) in BITS {
-        let line = told_of_entries(alloc, entries)?;
-        let want = format!(in alloc; "b.hjson:{want}")?;
-        assert_eq!(rt; line.as_str(), want.as_str(), "in {entries}");
-    }
+    let wrong = wrong_entries(rt.alloc(), bits_cases())?;
+    assert_eq!(rt; wrong.as_str(), "");
     Ok(())
 }
 
@@ -90,14 +90,14 @@ const OVERLAPS: [(&str, &str); 6] = [
     ),
 ];
 
+fn overlaps_cases() -> &'static [(&'static str, &'static str)] {
+    &OVERLAPS
+}
+
 #[test]
 fn overlaps_are_told(rt: HostRuntime) -> Result<(), Fail> {
-    let alloc = rt.alloc();
-    for (entries, want) in OVERLAPS {
-        let line = told_of_entries(alloc, entries)?;
-        let want = format!(in alloc; "b.hjson:{want}")?;
-        assert_eq!(rt; line.as_str(), want.as_str(), "in {entries}");
-    }
+    let wrong = wrong_entries(rt.alloc(), overlaps_cases())?;
+    assert_eq!(rt; wrong.as_str(), "");
     Ok(())
 }
 
@@ -137,14 +137,14 @@ const RESETS: [(&str, &str); 8] = [
     ),
 ];
 
+fn resets_cases() -> &'static [(&'static str, &'static str)] {
+    &RESETS
+}
+
 #[test]
 fn wide_reset_values_are_told(rt: HostRuntime) -> Result<(), Fail> {
-    let alloc = rt.alloc();
-    for (entries, want) in RESETS {
-        let line = told_of_entries(alloc, entries)?;
-        let want = format!(in alloc; "b.hjson:{want}")?;
-        assert_eq!(rt; line.as_str(), want.as_str(), "in {entries}");
-    }
+    let wrong = wrong_entries(rt.alloc(), resets_cases())?;
+    assert_eq!(rt; wrong.as_str(), "");
     Ok(())
 }
 
@@ -160,14 +160,14 @@ const NOT_READ: [(&str, &str); 2] = [
     ),
 ];
 
+fn not_read_cases() -> &'static [(&'static str, &'static str)] {
+    &NOT_READ
+}
+
 #[test]
 fn fields_of_bad_bits_are_not_read_further(rt: HostRuntime) -> Result<(), Fail> {
-    let alloc = rt.alloc();
-    for (entries, want) in NOT_READ {
-        let line = told_of_entries(alloc, entries)?;
-        let want = format!(in alloc; "b.hjson:{want}")?;
-        assert_eq!(rt; line.as_str(), want.as_str(), "in {entries}");
-    }
+    let wrong = wrong_entries(rt.alloc(), not_read_cases())?;
+    assert_eq!(rt; wrong.as_str(), "");
     Ok(())
 }
 
@@ -207,14 +207,14 @@ const COUNTS: [(&str, &str); 8] = [
     ),
 ];
 
+fn counts_cases() -> &'static [(&'static str, &'static str)] {
+    &COUNTS
+}
+
 #[test]
 fn wrong_counts_are_told(rt: HostRuntime) -> Result<(), Fail> {
-    let alloc = rt.alloc();
-    for (entries, want) in COUNTS {
-        let line = told_of_entries(alloc, entries)?;
-        let want = format!(in alloc; "b.hjson:{want}")?;
-        assert_eq!(rt; line.as_str(), want.as_str(), "in {entries}");
-    }
+    let wrong = wrong_entries(rt.alloc(), counts_cases())?;
+    assert_eq!(rt; wrong.as_str(), "");
     Ok(())
 }
 
@@ -234,13 +234,13 @@ const SEVERAL: [(&str, &str); 3] = [
     ),
 ];
 
+fn several_cases() -> &'static [(&'static str, &'static str)] {
+    &SEVERAL
+}
+
 #[test]
 fn the_first_is_told(rt: HostRuntime) -> Result<(), Fail> {
-    let alloc = rt.alloc();
-    for (entries, want) in SEVERAL {
-        let line = told_of_entries(alloc, entries)?;
-        let want = format!(in alloc; "b.hjson:{want}")?;
-        assert_eq!(rt; line.as_str(), want.as_str(), "in {entries}");
-    }
+    let wrong = wrong_entries(rt.alloc(), several_cases())?;
+    assert_eq!(rt; wrong.as_str(), "");
     Ok(())
 }

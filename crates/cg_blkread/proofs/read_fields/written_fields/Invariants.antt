@@ -1,7 +1,7 @@
 use Rattle.std.proofs.Common.{◌≡◌, ◌++◌, ◌+◌, drop}
 use Rattle.cg_blkread.specs.Raw.{raw_fields}
 use Rattle.cg_blkread.specs.Shared.{shared_view}
-use Rattle.cg_blkread.proofs.read_fields.read_fields.Given as goal
+use Rattle.cg_blkread.proofs.read_fields.written_fields.Given as goal
 
 -- the fields so far and those of the items that are left are all
 abbrev pub invariant-loop-place : goal.invariant-loop-place
