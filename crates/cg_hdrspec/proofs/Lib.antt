@@ -1,0 +1,13 @@
+pub mod NamesAreWords
+pub mod FieldBits
+pub mod ResetWord
+pub mod Lists
+pub mod Definitions
+pub mod Lines
+pub mod Places
+pub mod Agrees
+pub mod Law
+pub mod Pieces
+pub mod Spelled
+pub mod Forms
+pub mod Texts

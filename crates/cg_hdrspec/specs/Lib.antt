@@ -1,0 +1,6 @@
+pub mod Header
+pub mod HeaderFault
+pub mod Reading
+pub mod BlockHeader
+pub mod Meaning
+pub mod Laws
