@@ -1,0 +1,5 @@
+pub mod Answers
+pub mod Example
+pub mod Small
+pub mod Views
+pub mod Contents
