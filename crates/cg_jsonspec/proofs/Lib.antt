@@ -1,0 +1,11 @@
+pub mod Laid
+pub mod Numbers
+pub mod Escapes
+pub mod Characters
+pub mod Values
+pub mod Depths
+pub mod Law
+pub mod SayableGaps
+pub mod SayableStrings
+pub mod SayableLeaves
+pub mod Sayable

@@ -1,0 +1,4 @@
+pub mod Layout
+pub mod Said
+pub mod ReadsBack
+pub mod Laws
