@@ -9,5 +9,7 @@ pub mod Once
 pub mod Endings
 pub mod Kept
 pub mod Valid
+pub mod Seen
+pub mod Again
 pub mod Meanings
 pub mod Examples

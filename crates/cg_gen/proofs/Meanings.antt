@@ -1,9 +1,10 @@
 -- What is written means the block, by the laws of printed texts and of register modules.
-use Rattle.std.proofs.Common.{◌≡◌, ◌≢◌, ◌⊎◌, ℕ, ◌+◌, List, [], ◌∷◌, ◌++◌, map, length, codes, Option, Some, None, refl, sym, ap, ◌∙◌, subst, inl, inr, arith, length-append}
+use Rattle.std.proofs.Common.{◌≡◌, ◌≤◌, ◌≢◌, ◌⊎◌, ℕ, ◌+◌, List, [], ◌∷◌, ◌++◌, map, length, codes, Option, Some, None, refl, sym, ap, ◌∙◌, subst, inl, inr, arith, length-append}
 use Rattle.std.specs.FinMap as fin
 use Rattle.std.proofs.lemmas.List.{append_cancel_left, append_cancel_right}
 use Rattle.cg_base.specs.Outside.{Files}
 use Rattle.cg_svspec.specs.Layout.{module_text}
+use Rattle.cg_svspec.specs.Names.{first_repeat}
 use Rattle.cg_svspec.specs.Printable.{AllOf}
 use Rattle.cg_svspec.specs.Stands.{PrintedTextStands}
 use Rattle.cg_desc.specs.Laid.{IsLaid}
@@ -20,20 +21,30 @@ use Rattle.cg_layout.specs.Lays.{AreLaidOut, IsLaidBlock}
 use Rattle.cg_layout.proofs.Whole.{laid_faces}
 use Rattle.cg_regspec.specs.Laws.{RegisterModuleMeans}
 use Rattle.cg_regspec.specs.RegisterModule.{register_module_name}
+use Rattle.cg_hdrspec.specs.BlockHeader.{header_names, header_text}
+use Rattle.cg_hdrspec.specs.Laws.{BlockHeaderMeans}
+use Rattle.cg_hdrspec.specs.Meaning.{HeaderMeans}
+use Rattle.cg_jsonspec.specs.ReadsBack.{ReadsBack}
+use Rattle.cg_done.specs.Completed.{completed_text}
+use Rattle.cg_done.specs.Full.{full_block}
+use Rattle.cg_words.specs.declared.command.RegOut.{RegOut}
+use Rattle.cg_words.specs.declared.command.RegOut.TheVariants.{Registers, Header, Completed}
 use Rattle.cg_gen.specs.declared.due.Change.{Change}
 use Rattle.cg_gen.specs.declared.due.Due.{Due}
-use Rattle.cg_gen.specs.declared.words.RegisterTexts.{RegisterTexts}
+use Rattle.cg_gen.specs.declared.words.Asked.{Asked}
 use Rattle.cg_gen.specs.declared.ending.Ending.{Ending}
 use Rattle.cg_gen.specs.declared.ending.Ending.TheVariants.{Built, Refused, NoCommand, ReadFailed, WriteFailed, Memory}
-use Rattle.cg_gen.specs.Build.{Output, first_clash, modules_of, module_of_face, output_name, register_output, register_outputs, IsBuilt, built}
-use Rattle.cg_gen.specs.Due.{IsRegisterTexts, refuses, builds, IsDue, no_command, command, changes_of, stored_name, due_of_outputs}
-use Rattle.cg_gen.specs.Meaning.{text_name, HoldsMeaning, WritesBlock, WritesMeaning}
+use Rattle.cg_gen.specs.Build.{Output, first_clash, clash_of, modules_of, module_of_face, output_name, register_output, register_outputs, header_output, completed_output, outputs_of, IsBuilt, built}
+use Rattle.cg_gen.specs.Due.{IsAsked, refuses, builds, IsDue, no_command, command, changes_of, stored_name, due_of_outputs}
+use Rattle.cg_gen.specs.Meaning.{BuildsSame, HoldsModule, HoldsHeader, HoldsCompleted, Holds, WritesBlock, WritesMeaning}
 use Rattle.cg_gen.specs.Run.{World, Performs, Ends, code_of, changed}
-use Rattle.cg_gen.specs.Stages.{description, IsLaidOutAs}
+use Rattle.cg_gen.specs.Stages.{limit, description, IsLaidOutAs}
 use Rattle.cg_gen.specs.Texts.{put_changes, text_change}
+use Rattle.cg_gen.proofs.Again as again
+use Rattle.cg_gen.proofs.Again.{builds_same}
 use Rattle.cg_gen.proofs.Kept.{after, changed_is, Agree, untouched, kept, puts_in, puts_out}
-use Rattle.cg_gen.proofs.Modules.{Acts, all_act}
-use Rattle.cg_gen.proofs.Valid.{described_is_valid, items_are_valid}
+use Rattle.cg_gen.proofs.Modules.{Acts, all_act, is_named, neither}
+use Rattle.cg_gen.proofs.Valid.{described_is_valid, is_read, items_are_valid}
 use Rattle.cg_gen.proofs.Puts.{stored, register_changes, texts_are}
 
 -- ---- texts have names of their own
@@ -120,6 +131,30 @@ has_text dir laid (f ∷ fs) face (inr there) = inr (has_text dir laid fs face t
 changes_are : (dir : List ℕ) (laid : LaidBlock) → changes_of dir (register_outputs laid) ≡ put_changes [] (texts dir laid laid.faces)
 changes_are dir laid = sym (register_changes dir laid) ∙ ap (put_changes []) (texts_are dir laid laid.faces)
 
+-- a change that is one of these outputs
+record OutputOf (dir : List ℕ) (os : List Output) (c : Change) : Type 0 where
+  output : Output
+  among : Among output os
+  is_output : c ≡ stored dir output
+
+output_of : (dir : List ℕ) (os : List Output) (c : Change) → Among c (changes_of dir os) → OutputOf dir os c
+output_of dir [] c among = absurd among
+output_of dir (o ∷ os) c (inl is) = record { output = o; among = inl refl; is_output = is }
+output_of dir (o ∷ os) c (inr there) = let one = output_of dir os c there in record { output = one.output; among = inr one.among; is_output = one.is_output }
+
+-- a name that is none of the outputs' is as it was
+others_held : (dir : List ℕ) (os : List Output) (m : Files) (name : List ℕ) → ((o : Output) → Among o os → ¬ (name ≡ stored_name dir o.name))
+    → fin.get (after m (changes_of dir os)) name ≡ fin.get m name
+others_held dir os m name other =
+    untouched m (changes_of dir os) name (λ c among same. let one = output_of dir os c among in other one.output one.among (same ∙ ap (λ (z : Change). z.name) one.is_output))
+
+-- a single output is held
+alone_held : (dir : List ℕ) (o : Output) (m : Files) → fin.get (after m (changes_of dir (o ∷ []))) (stored_name dir o.name) ≡ Some o.bytes
+alone_held dir o m = kept m (stored dir o ∷ []) (stored dir o) (λ c d one other same. only_bytes c one ∙ sym (only_bytes d other)) (inl refl) where
+  only_bytes : (c : Change) → Among c (stored dir o ∷ []) → c.bytes ≡ o.bytes
+  only_bytes c (inl is) = ap (λ (z : Change). z.bytes) is
+  only_bytes c (inr none) = absurd none
+
 module _ (dir : List ℕ) (laid : LaidBlock) (differ : LaidDiffer laid.faces) where
   abbrev ordered : List Change
   ordered = put_changes [] (texts dir laid laid.faces)
@@ -136,59 +171,83 @@ module _ (dir : List ℕ) (laid : LaidBlock) (differ : LaidDiffer laid.faces) wh
       ap (λ (z : Change). z.bytes) a.is_text ∙ ap (λ z. module_text (module_of_face laid z)) face ∙ sym (ap (λ (z : Change). z.bytes) b.is_text)
 
   -- each interface's text is held
-  text_held : (m : Files) (face : LaidFace) → Among face laid.faces → fin.get (after m ordered) (stored_name dir (output_name laid face)) ≡ Some (module_text (module_of_face laid face))
+  text_held : (m : Files) (face : LaidFace) → Among face laid.faces
+      → fin.get (after m (changes_of dir (register_outputs laid))) (stored_name dir (output_name laid face)) ≡ Some (module_text (module_of_face laid face))
   text_held m face among =
-      kept m ordered (stored dir (register_output laid face)) agree (puts_in (stored dir (register_output laid face)) [] (texts dir laid laid.faces) (inr (has_text dir laid laid.faces face among)))
-
-  -- every other name is as it was
-  others_held : (m : Files) (name : List ℕ) → ((face : LaidFace) → Among face laid.faces → ¬ (name ≡ stored_name dir (output_name laid face))) → fin.get (after m ordered) name ≡ fin.get m name
-  others_held m name other =
-      untouched m ordered name (λ c among same. let one = one_of c among in other one.face one.among (same ∙ ap (λ (z : Change). z.name) one.is_text))
+      ap (λ cs. fin.get (after m cs) (stored_name dir (output_name laid face))) (changes_are dir laid)
+      ∙ kept m ordered (stored dir (register_output laid face)) agree (puts_in (stored dir (register_output laid face)) [] (texts dir laid laid.faces) (inr (has_text dir laid laid.faces face among)))
 
 -- ---- the meaning
 
-abbrev Laws : Type 0
-Laws = PrintedTextStands × RegisterModuleMeans
+-- the laws of printed texts, of register modules, of headers, of completed descriptions and of documents
+pub record Laws : Type 0 where
+  pub printed : PrintedTextStands
+  pub modules : RegisterModuleMeans
+  pub headers : BlockHeaderMeans
+  pub completed : again.Laws
 
-holds : Laws → (c : RegisterTexts) (laid : LaidBlock) (m : Files) (face : LaidFace) → LaidDiffer laid.faces → Among face laid.faces → Acts laid face
-    → HoldsMeaning c laid (after m (put_changes [] (texts c.dir laid laid.faces))) face
-holds laws c laid m face differ among acts = record {
-  text = module_text (module_of_face laid face);
-  held = text_held c.dir laid differ m face among;
-  module_of_text = module_of_face laid face;
-  stands = laws.0 (module_of_face laid face) acts.well_formed.printable;
-  acts = acts;
-}
+-- what is known of a block that is laid out, in which no name comes twice
+record Whole (bytes : List ℕ) (t : Tree) (laid : LaidBlock) : Type 0 where
+  differ : LaidDiffer laid.faces
+  acts : AllOf (Acts laid) laid.faces
+  header : HeaderMeans laid (header_text laid)
+  completed : ReadsBack (completed_text t) (full_block t)
+  again : length (completed_text t) ≤ limit → BuildsSame bytes (completed_text t)
 
-written_block : Laws → (words : List (List ℕ)) (m : Files) (c : RegisterTexts) (bytes : List ℕ) (t : Tree) (laid : LaidBlock)
-    → IsRegisterTexts words c → fin.get m c.file ≡ Some bytes → IsLaidOutAs bytes t laid → first_clash (modules_of laid) ≡ None
-    → WritesBlock words m (after m (put_changes [] (texts c.dir laid laid.faces)))
-written_block laws words m c bytes t laid is_c gave is apart =
+whole : Laws → (bytes : List ℕ) (t : Tree) (laid : LaidBlock) → IsLaidOutAs bytes t laid → clash_of laid ≡ None → Whole bytes t laid
+whole laws bytes t laid is apart =
     let b : BlockDesc = description t in
     let valid = described_is_valid 0 t is.items.block.sound in
     let faces = laid_faces b laid (items_are_valid b valid is.items.sound) is.sound is.laid in
-    let acts = all_act laws.1 b laid valid is.laid faces apart in
-    let differ = all_differ b.faces (items_of_block b) laid.faces valid.interfaces_differ is.laid.interfaces in
+    let both = neither (first_clash (modules_of laid)) (first_repeat (header_names laid)) apart in
     record {
-      command = c;
-      is_command = is_c;
-      description = bytes;
-      is_description = gave;
-      tree = t;
-      laid = laid;
-      is_laid = is;
-      interfaces = λ face among. holds laws c laid m face differ among (of_all (Acts laid) laid.faces face acts among);
-      others = others_held c.dir laid differ m;
+      differ = all_differ b.faces (items_of_block b) laid.faces valid.interfaces_differ is.laid.interfaces;
+      acts = all_act laws.modules b laid valid is.laid faces both.0;
+      header = laws.headers laid (is_named b laid valid is.laid faces) both.1;
+      completed = laws.completed.reads_back t (is_read laws.completed.documents bytes t is.items.block);
+      again = builds_same laws.completed bytes t laid is apart;
     }
+
+holds_module : Laws → (dir : List ℕ) (laid : LaidBlock) (m : Files) (face : LaidFace) → LaidDiffer laid.faces → Among face laid.faces → Acts laid face
+    → HoldsModule dir laid (after m (changes_of dir (register_outputs laid))) face
+holds_module laws dir laid m face differ among acts = record {
+  text = module_text (module_of_face laid face);
+  held = text_held dir laid differ m face among;
+  module_of_text = module_of_face laid face;
+  stands = laws.printed (module_of_face laid face) acts.well_formed.printable;
+  acts = acts;
+}
+
+holds_all : Laws → (made : RegOut) (dir bytes : List ℕ) (t : Tree) (laid : LaidBlock) (m : Files) → Whole bytes t laid
+    → Holds made dir bytes t laid (after m (changes_of dir (outputs_of made t laid)))
+holds_all laws Registers dir bytes t laid m w = λ face among. holds_module laws dir laid m face w.differ among (of_all (Acts laid) laid.faces face w.acts among)
+holds_all laws Header dir bytes t laid m w = record { text = header_text laid; held = alone_held dir (header_output laid) m; agrees = w.header }
+holds_all laws Completed dir bytes t laid m w =
+    record { text = completed_text t; held = alone_held dir (completed_output t laid) m; reads_back = w.completed; again = w.again }
+
+written_block : Laws → (words : List (List ℕ)) (m : Files) (c : Asked) (bytes : List ℕ) (t : Tree) (laid : LaidBlock)
+    → IsAsked words c → fin.get m c.file ≡ Some bytes → IsLaidOutAs bytes t laid → clash_of laid ≡ None
+    → WritesBlock words m (after m (changes_of c.dir (outputs_of c.made t laid)))
+written_block laws words m c bytes t laid is_c gave is apart = record {
+  command = c;
+  is_command = is_c;
+  description = bytes;
+  is_description = gave;
+  tree = t;
+  laid = laid;
+  is_laid = is;
+  holds = holds_all laws c.made c.dir bytes t laid m (whole laws bytes t laid is apart);
+  others = others_held c.dir (outputs_of c.made t laid) m;
+}
 
 abbrev Writes : List (List ℕ) → Files → Option Files → Type 0
 Writes words m files = (n : Files) × (files ≡ Some n) × WritesBlock words m n
 
-by_outputs : Laws → (words : List (List ℕ)) (m : Files) (files : Option Files) (c : RegisterTexts) (given : Option (List ℕ)) (outputs : List Output) → IsRegisterTexts words c
-    → fin.get m c.file ≡ given → IsBuilt given outputs → files ≡ changed (Some m) (changes_of c.dir outputs) → Writes words m files
+by_outputs : Laws → (words : List (List ℕ)) (m : Files) (files : Option Files) (c : Asked) (given : Option (List ℕ)) (outputs : List Output) → IsAsked words c
+    → fin.get m c.file ≡ given → IsBuilt c.made given outputs → files ≡ changed (Some m) (changes_of c.dir outputs) → Writes words m files
 by_outputs laws words m files c _ _ is_c gave (built {bytes} t laid is apart) done = (
-  after m (put_changes [] (texts c.dir laid laid.faces)),
-  done ∙ ap (changed (Some m)) (changes_are c.dir laid) ∙ changed_is m (put_changes [] (texts c.dir laid laid.faces)),
+  after m (changes_of c.dir (outputs_of c.made t laid)),
+  done ∙ changed_is m (changes_of c.dir (outputs_of c.made t laid)),
   written_block laws words m c bytes t laid is_c gave is apart,
 )
 
@@ -203,11 +262,11 @@ performed_means laws words before after' p m told =
     by_due laws words m after'.files p.due (subst (λ files. IsDue words files p.due) told p.is_due) p.is_status (p.is_done.files ∙ ap (λ files. changed files p.due.changes) told)
 
 -- a run that ends with status 0
-pub ended_means : PrintedTextStands → RegisterModuleMeans → (words : List (List ℕ)) (before after' : World) (e : Ending) (status : ℕ) → Ends e words before after' → status ≡ code_of e → status ≡ 0
+pub ended_means : Laws → (words : List (List ℕ)) (before after' : World) (e : Ending) (status : ℕ) → Ends e words before after' → status ≡ code_of e → status ≡ 0
     → WritesMeaning words before after'
-ended_means stand law words before after' Built status ends is zero = performed_means (stand, law) words before after' ends
-ended_means stand law words before after' Refused status ends is zero = let bad : ◌≡◌ {A = ℕ} 1 0 = sym is ∙ zero in cc
-ended_means stand law words before after' NoCommand status ends is zero = let bad : ◌≡◌ {A = ℕ} 2 0 = sym is ∙ zero in cc
-ended_means stand law words before after' ReadFailed status ends is zero = let bad : ◌≡◌ {A = ℕ} 3 0 = sym is ∙ zero in cc
-ended_means stand law words before after' WriteFailed status ends is zero = let bad : ◌≡◌ {A = ℕ} 4 0 = sym is ∙ zero in cc
-ended_means stand law words before after' Memory status ends is zero = let bad : ◌≡◌ {A = ℕ} 5 0 = sym is ∙ zero in cc
+ended_means laws words before after' Built status ends is zero = performed_means laws words before after' ends
+ended_means laws words before after' Refused status ends is zero = let bad : ◌≡◌ {A = ℕ} 1 0 = sym is ∙ zero in cc
+ended_means laws words before after' NoCommand status ends is zero = let bad : ◌≡◌ {A = ℕ} 2 0 = sym is ∙ zero in cc
+ended_means laws words before after' ReadFailed status ends is zero = let bad : ◌≡◌ {A = ℕ} 3 0 = sym is ∙ zero in cc
+ended_means laws words before after' WriteFailed status ends is zero = let bad : ◌≡◌ {A = ℕ} 4 0 = sym is ∙ zero in cc
+ended_means laws words before after' Memory status ends is zero = let bad : ◌≡◌ {A = ℕ} 5 0 = sym is ∙ zero in cc

@@ -1,6 +1,6 @@
 -- The modules of a block that is laid out, of which no name repeats, act as its interfaces.
 use Rattle.std.proofs.Common.{◌≡◌, ℕ, suc, ◌<◌, ◌≤◌, arith, List, [], ◌∷◌, map, length, Option, Some, None, refl, sym, ap, ◌∙◌, subst}
-use Rattle.cg_svspec.specs.Characters.{IsName}
+use Rattle.cg_svspec.specs.Characters.{IsName, IsWord}
 use Rattle.cg_svspec.specs.Names.{first_repeat, module_names}
 use Rattle.cg_svspec.specs.Printable.{AllOf, IsPrintable}
 use Rattle.cg_svspec.specs.Tree.{Module}
@@ -13,6 +13,7 @@ use Rattle.cg_desc.specs.declared.block.LaidBlock.{LaidBlock}
 use Rattle.cg_desc.specs.declared.block.LaidFace.{LaidFace}
 use Rattle.cg_desc.specs.Items.{items_of_block}
 use Rattle.cg_layout.specs.Lays.{AreLaidOut, IsLaidBlock}
+use Rattle.cg_hdrspec.specs.Laws.{IsNamed}
 use Rattle.cg_regspec.specs.Laws.{RegisterModuleMeans}
 use Rattle.cg_regspec.specs.Meaning.{RegisterMeans}
 use Rattle.cg_regspec.specs.RegisterModule.{register_module, register_module_name}
@@ -46,7 +47,7 @@ module_is_name block (Some name) is good = interface_module_name block name is.0
 
 -- ---- clashes
 
-neither : (a b : Option (List ℕ)) → or_else a b ≡ None → (a ≡ None) × (b ≡ None)
+pub neither : (a b : Option (List ℕ)) → or_else a b ≡ None → (a ≡ None) × (b ≡ None)
 neither None b e = (refl, e)
 neither (Some a) b e = absurd (let bad : Some a ≡ None = e in cc)
 
@@ -82,3 +83,14 @@ all_printable law b laid ms valid is all apart made = subst (AllOf IsPrintable) 
 -- a block has few interfaces
 pub few_faces : (b : BlockDesc) (laid : LaidBlock) → IsValidBlock b → IsLaidBlock b laid → length laid.faces < 4294967296
 few_faces b laid valid is = let same = count_kept b.faces (items_of_block b) laid.faces is.interfaces in let few = valid.few_interfaces in omega (arith, same)
+
+both_of : (P Q : LaidFace → Type 0) (faces : List LaidFace) → AllOf P faces → AllOf Q faces → AllOf (λ face. P face × Q face) faces
+both_of P Q [] ps qs = tt
+both_of P Q (f ∷ fs) ps qs = ((ps.0, qs.0), both_of P Q fs ps.1 qs.1)
+
+-- a valid block that is laid out has names of which a header can be made
+pub is_named : (b : BlockDesc) (laid : LaidBlock) → IsValidBlock b → IsLaidBlock b laid → AllOf IsLaid laid.faces → IsNamed laid
+is_named b laid valid is all = record {
+  block = subst (λ (d : BlockDesc). IsWord d.name) (sym is.description) valid.name.0;
+  interfaces = both_of (λ face. IsNameIfAny face.name) IsLaid laid.faces (names_kept b.faces (items_of_block b) laid.faces valid.interfaces is.interfaces) all;
+}

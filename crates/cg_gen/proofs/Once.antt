@@ -14,6 +14,7 @@ use Rattle.cg_layout.specs.Violations.{Violates as BreaksOffsetsOrGates}
 use Rattle.cg_layout.specs.Lays.{IsLaidBlock}
 use Rattle.cg_words.specs.declared.command.Command.{Command}
 use Rattle.cg_words.specs.declared.command.Command.TheVariants.{Regtool}
+use Rattle.cg_words.specs.declared.command.RegOut.{RegOut}
 use Rattle.cg_words.specs.declared.command.RegOut.TheVariants.{Registers}
 use Rattle.cg_words.proofs.ExactWords.{one_command}
 use Rattle.cg_hjson.proofs.SeenWhole.{seen_alike}
@@ -23,9 +24,9 @@ use Rattle.cg_desc.specs.declared.block.LaidBlock.{LaidBlock}
 use Rattle.cg_hjson.specs.Views.{tree_of}
 use Rattle.cg_hjson.specs.declared.tree.Tree.{Tree}
 use Rattle.cg_gen.specs.declared.due.Due.{Due}
-use Rattle.cg_gen.specs.declared.words.RegisterTexts.{RegisterTexts}
-use Rattle.cg_gen.specs.Build.{Output, first_clash, modules_of, IsFirstFault, absent, large, not_utf8, no_document, too_deep as deep, keys_or_values, names_or_counts, offsets_or_gates, clash, IsBuilt, built}
-use Rattle.cg_gen.specs.Due.{IsRegisterTexts, IsDueFor, refuses, builds, Gave, IsDue, no_command, command}
+use Rattle.cg_gen.specs.declared.words.Asked.{Asked}
+use Rattle.cg_gen.specs.Build.{Output, clash_of, IsFirstFault, absent, large, not_utf8, no_document, too_deep as deep, keys_or_values, names_or_counts, offsets_or_gates, clash, IsBuilt, built}
+use Rattle.cg_gen.specs.Due.{IsAsked, IsDueFor, refuses, builds, Gave, IsDue, no_command, command}
 use Rattle.cg_gen.specs.Stages.{limit, description, HasTree, IsBlock, HasItems, IsLaidOutAs}
 
 -- bytes of which not all are UTF-8 are none
@@ -53,26 +54,30 @@ same_layout bytes t u l m a b =
     (same, laid_once (description u) l m (subst (λ x. IsLaidBlock (description x) l) same a.laid) b.laid)
 
 -- a file with a first fault is not built
-not_both : (given : Option (List ℕ)) (fault : Fault) (outputs : List Output) → IsFirstFault given fault → IsBuilt given outputs → ⊥
-not_both _ _ _ absent x = elim x [ ]
-not_both _ _ _ (large {bytes} many) (built t laid is apart) = absurd (let few = is.items.block.tree.text.few in omega arith)
-not_both _ _ _ (not_utf8 {bytes} {n} few bad) (built t laid is apart) = not_text bytes n bad is.items.block.tree.text.utf8
-not_both _ _ _ (no_document {bytes} {at} text none) (built t laid is apart) = no_tree bytes at t none is.items.block.tree
-not_both _ _ _ (deep {bytes} {at} text opens) (built t laid is apart) = not_deep bytes at t opens is.items.block.tree
-not_both _ _ _ (keys_or_values {bytes} {f} u has first) (built t laid is apart) =
+pub not_both : (made : RegOut) (given : Option (List ℕ)) (fault : Fault) (outputs : List Output) → IsFirstFault given fault → IsBuilt made given outputs → ⊥
+not_both _ _ _ _ absent x = elim x [ ]
+not_both _ _ _ _ (large {bytes} many) (built t laid is apart) = absurd (let few = is.items.block.tree.text.few in omega arith)
+not_both _ _ _ _ (not_utf8 {bytes} {n} few bad) (built t laid is apart) = not_text bytes n bad is.items.block.tree.text.utf8
+not_both _ _ _ _ (no_document {bytes} {at} text none) (built t laid is apart) = no_tree bytes at t none is.items.block.tree
+not_both _ _ _ _ (deep {bytes} {at} text opens) (built t laid is apart) = not_deep bytes at t opens is.items.block.tree
+not_both _ _ _ _ (keys_or_values {bytes} {f} u has first) (built t laid is apart) =
     is.items.block.sound f (subst (λ x. BreaksKeysOrValues x f) (same_tree bytes u t has is.items.block.tree) first.violates)
-not_both _ _ _ (names_or_counts {bytes} {f} u has first) (built t laid is apart) =
+not_both _ _ _ _ (names_or_counts {bytes} {f} u has first) (built t laid is apart) =
     is.items.sound f (subst (λ x. BreaksNamesOrCounts (description x) f) (same_tree bytes u t has.tree is.items.block.tree) first.violates)
-not_both _ _ _ (offsets_or_gates {bytes} {f} u has first) (built t laid is apart) =
+not_both _ _ _ _ (offsets_or_gates {bytes} {f} u has first) (built t laid is apart) =
     is.sound f (subst (λ x. BreaksOffsetsOrGates (description x) f) (same_tree bytes u t has.block.tree is.items.block.tree) first.violates)
-not_both _ _ _ (clash {bytes} {name} u m is_m some) (built t laid is apart) =
-    let e : Some name ≡ None = sym some ∙ ap (λ l. first_clash (modules_of l)) (same_layout bytes u t m laid is_m is).1 ∙ apart in cc
+not_both _ _ _ _ (clash {bytes} {name} u m is_m some) (built t laid is apart) =
+    let e : Some name ≡ None = sym some ∙ ap clash_of (same_layout bytes u t m laid is_m is).1 ∙ apart in cc
 
-status_for : (c : RegisterTexts) (given : Option (List ℕ)) (d e : Due) → IsDueFor c given d → IsDueFor c given e → d.status ≡ e.status
+status_for : (c : Asked) (given : Option (List ℕ)) (d e : Due) → IsDueFor c given d → IsDueFor c given e → d.status ≡ e.status
 status_for c given d e (refuses f a) (refuses g b) = refl
-status_for c given d e (refuses f a) (builds os b) = absurd (not_both given f os a b)
-status_for c given d e (builds os a) (refuses f b) = absurd (not_both given f os b a)
+status_for c given d e (refuses f a) (builds os b) = absurd (not_both c.made given f os a b)
+status_for c given d e (builds os a) (refuses f b) = absurd (not_both c.made given f os b a)
 status_for c given d e (builds os a) (builds ps b) = refl
+
+abbrev made_in : Command → RegOut
+made_in (Regtool made dir file) = made
+made_in _ = Registers
 
 abbrev dir_in : Command → List ℕ
 dir_in (Regtool made dir file) = dir
@@ -82,17 +87,17 @@ abbrev file_in : Command → List ℕ
 file_in (Regtool made dir file) = file
 file_in _ = []
 
--- words ask for register texts in one way
-pub same_command : (words : List (List ℕ)) (c b : RegisterTexts) → IsRegisterTexts words c → IsRegisterTexts words b → b ≡ c
+-- words ask for outputs in one way
+pub same_command : (words : List (List ℕ)) (c b : Asked) → IsAsked words c → IsAsked words b → b ≡ c
 same_command words c b is is2 =
-    let e = one_command words (Regtool Registers b.dir b.file) (Regtool Registers c.dir c.file) is2 is in
-    (λ i. record { dir = dir_in (e i); file = file_in (e i) })
+    let e = one_command words (Regtool b.made b.dir b.file) (Regtool c.made c.dir c.file) is2 is in
+    (λ i. record { made = made_in (e i); dir = dir_in (e i); file = file_in (e i) })
 
-status_of_commands : (words : List (List ℕ)) (m : Files) (c b : RegisterTexts) (given other : Option (List ℕ)) (d e : Due) → IsRegisterTexts words c → IsRegisterTexts words b
+status_of_commands : (words : List (List ℕ)) (m : Files) (c b : Asked) (given other : Option (List ℕ)) (d e : Due) → IsAsked words c → IsAsked words b
     → Gave (Some m) c.file given → Gave (Some m) b.file other → IsDueFor c given d → IsDueFor b other e → d.status ≡ e.status
 status_of_commands words m c b given other d e is is2 gave gave2 for for2 =
     let same : b ≡ c = same_command words c b is is2 in
-    let file : other ≡ given = sym (gave2 m refl) ∙ ap (λ (z : RegisterTexts). map.get m z.file) same ∙ gave m refl in
+    let file : other ≡ given = sym (gave2 m refl) ∙ ap (λ (z : Asked). map.get m z.file) same ∙ gave m refl in
     let here : IsDueFor c given e = subst (λ g. IsDueFor c g e) file (subst (λ z. IsDueFor z other e) same for2) in
     status_for c given d e for here
 

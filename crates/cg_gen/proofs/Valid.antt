@@ -8,6 +8,10 @@ use Rattle.cg_desc.specs.declared.block.BlockDesc.{BlockDesc}
 use Rattle.cg_finding.specs.Finding.{Finding, finding, In, first_of, of_least_phase}
 use Rattle.cg_finding.proofs.Firsts.{first_of-empty}
 use Rattle.cg_hjson.specs.declared.tree.Tree.{Tree}
+use Rattle.cg_hjson.specs.Views.{tree_of}
+use Rattle.cg_jsonspec.specs.Laws.{DocumentsAreSayable}
+use Rattle.cg_done.specs.Completed.{IsReadBlock}
+use Rattle.cg_gen.specs.Stages.{IsBlock}
 use Rattle.cg_blkread.specs.Described.{block_of}
 use Rattle.cg_blkread.specs.Keys.{key_faults}
 use Rattle.cg_blkread.specs.Reads.{value_faults, Violates as BreaksKeysOrValues}
@@ -37,3 +41,11 @@ unfolding interrupt_bits
 items_are_valid b valid none =
     block_valid b valid (few 32 (interrupt_bits b) (λ many. none (finding 4 42 b.intrs_at []) (interrupts many)))
     (few 32 (length b.alerts) (λ many. none (finding 4 42 b.alerts_at []) (alerts many)))
+
+-- the tree of a block's text is one that can be completed
+pub is_read : DocumentsAreSayable → (bytes : List ℕ) (t : Tree) → IsBlock bytes t → IsReadBlock t
+is_read law bytes t is = record {
+  sound = is.sound;
+  sayable = law bytes (tree_of t) is.tree.text.utf8 is.tree.document;
+  shallow = is.tree.shallow;
+}

@@ -14,12 +14,16 @@ use Rattle.cg_desc.specs.declared.fault.DescFault.{DescFault}
 use Rattle.cg_desc.specs.declared.fault.DescFault.TheVariants as refusal
 use Rattle.cg_desc.specs.declared.block.LaidBlock.{LaidBlock}
 use Rattle.cg_desc.specs.declared.block.LaidFace.{LaidFace}
+use Rattle.cg_hdrspec.specs.BlockHeader.{header_names, header_text}
+use Rattle.cg_words.specs.declared.command.RegOut.{RegOut}
+use Rattle.cg_words.specs.declared.command.RegOut.TheVariants.{Registers, Header, Completed}
 use Rattle.cg_regspec.specs.RegisterModule.{register_module, register_module_name}
 use Rattle.cg_finding.specs.Finding.{Finding, finding, in_file}
 use Rattle.cg_finding.specs.Violations.{IsFirstViolation}
 use Rattle.cg_keys.specs.Duplicates.{at_of}
 use Rattle.cg_hjson.specs.declared.tree.Tree.{Tree}
 use Rattle.cg_blkread.specs.Reads.{Violates as BreaksKeysOrValues}
+use Rattle.cg_done.specs.Completed.{completed_text}
 use Rattle.cg_expand.specs.Violations.{Violates as BreaksNamesOrCounts}
 use Rattle.cg_layout.specs.Violations.{Violates as BreaksOffsetsOrGates}
 use Rattle.cg_gen.specs.Stages.{limit, IsText, description, HasTree, IsBlock, HasItems, IsLaidOutAs}
@@ -45,6 +49,10 @@ first_clash (m ∷ ms) = or_else (first_repeat (module_names m)) (first_clash ms
 abbrev pub modules_of : LaidBlock → List Module
 modules_of laid = map (module_of_face laid) laid.faces
 
+-- the first repeat among the names of its modules, module by module, or else among those that its header defines
+abbrev pub clash_of : LaidBlock → Option (List ℕ)
+clash_of laid = or_else (first_clash (modules_of laid)) (first_repeat (header_names laid))
+
 -- ---- faults
 
 abbrev pub start : At
@@ -55,7 +63,7 @@ abbrev pub place_behind : List ℕ → ℕ → At
 place_behind bytes n = at_of (place_after origin (chars (take n bytes)))
 
 -- The first fault of what the store gave for the file, None where it is absent. Each stage is looked at where those before it
--- stand: the file, its text, its keys and values, its names and counts, its offsets and gates, the names of its modules.
+-- stand: the file, its text, its keys and values, its names and counts, its offsets and gates, the names in its modules and header.
 pub data IsFirstFault : Option (List ℕ) → Fault → Type 0 where
   absent : IsFirstFault None (in_file 0 (finding 0 10 start []))
   large : {bytes : List ℕ} → limit < length bytes → IsFirstFault (Some bytes) (in_file 0 (finding 0 11 start []))
@@ -71,7 +79,7 @@ pub data IsFirstFault : Option (List ℕ) → Fault → Type 0 where
       → IsFirstFault (Some bytes) (in_file 0 f)
   offsets_or_gates : {bytes : List ℕ} {f : Finding} (t : Tree) → HasItems bytes t → IsFirstViolation (BreaksOffsetsOrGates (description t)) f
       → IsFirstFault (Some bytes) (in_file 0 f)
-  clash : {bytes name : List ℕ} (t : Tree) (laid : LaidBlock) → IsLaidOutAs bytes t laid → first_clash (modules_of laid) ≡ Some name
+  clash : {bytes name : List ℕ} (t : Tree) (laid : LaidBlock) → IsLaidOutAs bytes t laid → clash_of laid ≡ Some name
       → IsFirstFault (Some bytes) (in_file 0 (finding 12 70 t.at name))
 
 -- ---- outputs
@@ -106,10 +114,30 @@ by_name os = put_outputs [] os
 abbrev pub register_outputs : LaidBlock → List Output
 register_outputs laid = by_name (map (register_output laid) laid.faces)
 
+abbrev pub header_name : LaidBlock → List ℕ
+header_name laid = laid.desc.name ++ codes "_regs.h"
+
+-- the header of a block
+abbrev pub header_output : LaidBlock → Output
+header_output laid = record { name = header_name laid; bytes = header_text laid }
+
+abbrev pub completed_name : LaidBlock → List ℕ
+completed_name laid = laid.desc.name ++ codes ".gen.hjson"
+
+-- the completed description of a block
+abbrev pub completed_output : Tree → LaidBlock → Output
+completed_output t laid = record { name = completed_name laid; bytes = completed_text t }
+
+-- what is asked for: the register texts, the header or the completed description
+abbrev pub outputs_of : RegOut → Tree → LaidBlock → List Output
+outputs_of Registers t laid = register_outputs laid
+outputs_of Header t laid = header_output laid ∷ []
+outputs_of Completed t laid = completed_output t laid ∷ []
+
 -- what is built of a file that has no fault
-pub data IsBuilt : Option (List ℕ) → List Output → Type 0 where
-  built : {bytes : List ℕ} (t : Tree) (laid : LaidBlock) → IsLaidOutAs bytes t laid → first_clash (modules_of laid) ≡ None
-      → IsBuilt (Some bytes) (register_outputs laid)
+pub data IsBuilt (made : RegOut) : Option (List ℕ) → List Output → Type 0 where
+  built : {bytes : List ℕ} (t : Tree) (laid : LaidBlock) → IsLaidOutAs bytes t laid → clash_of laid ≡ None
+      → IsBuilt made (Some bytes) (outputs_of made t laid)
 
 -- ---- what a stage of the build answers
 

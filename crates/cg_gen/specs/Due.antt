@@ -7,10 +7,9 @@ use Rattle.cg_desc.specs.FaultText.{fault_line}
 use Rattle.cg_desc.specs.declared.fault.Fault.{Fault}
 use Rattle.cg_gen.specs.declared.due.Change.{Change}
 use Rattle.cg_gen.specs.declared.due.Due.{Due}
-use Rattle.cg_gen.specs.declared.words.RegisterTexts.{RegisterTexts}
+use Rattle.cg_gen.specs.declared.words.Asked.{Asked}
 use Rattle.cg_words.specs.Words.{IsCommand}
 use Rattle.cg_words.specs.declared.command.Command.TheVariants.{Regtool}
-use Rattle.cg_words.specs.declared.command.RegOut.TheVariants.{Registers}
 use Rattle.cg_gen.specs.Build.{Output, IsFirstFault, IsBuilt}
 
 -- a text as a line
@@ -51,23 +50,23 @@ due_of_no_command = record { changes = []; line = usage; status = 2 }
 
 -- ---- the commands that are built
 
--- the words ask for register texts
-abbrev pub IsRegisterTexts : List (List ℕ) → RegisterTexts → Type 0
-IsRegisterTexts words command = IsCommand words (Regtool Registers command.dir command.file)
+-- the words ask for the outputs of a block
+abbrev pub IsAsked : List (List ℕ) → Asked → Type 0
+IsAsked words command = IsCommand words (Regtool command.made command.dir command.file)
 
 -- What is due for what the store gave for the file: its first fault is told, exactly where there is one, or else its outputs are
 -- written.
-pub data IsDueFor (command : RegisterTexts) (given : Option (List ℕ)) : Due → Type 0 where
+pub data IsDueFor (command : Asked) (given : Option (List ℕ)) : Due → Type 0 where
   refuses : (fault : Fault) → IsFirstFault given fault → IsDueFor command given (due_of_fault command.file fault)
-  builds : (outputs : List Output) → IsBuilt given outputs → IsDueFor command given (due_of_outputs command.dir outputs)
+  builds : (outputs : List Output) → IsBuilt command.made given outputs → IsDueFor command given (due_of_outputs command.dir outputs)
 
 -- what the store gave for a name is its file, where the files are told
 abbrev pub Gave : Option Files → List ℕ → Option (List ℕ) → Type 0
 Gave files name given = (m : Files) → files ≡ Some m → map.get m name ≡ given
 
--- What is due for the words and the files at entry. The words are no command, or one that is not built yet, or they ask for
--- register texts.
+-- What is due for the words and the files at entry. The words are no command, or one that is not built yet, or they ask for the
+-- outputs of a block.
 pub data IsDue (words : List (List ℕ)) (files : Option Files) : Due → Type 0 where
-  no_command : ((c : RegisterTexts) → ¬ IsRegisterTexts words c) → IsDue words files due_of_no_command
-  command : {due : Due} (c : RegisterTexts) (given : Option (List ℕ)) → IsRegisterTexts words c → Gave files c.file given → IsDueFor c given due
+  no_command : ((c : Asked) → ¬ IsAsked words c) → IsDue words files due_of_no_command
+  command : {due : Due} (c : Asked) (given : Option (List ℕ)) → IsAsked words c → Gave files c.file given → IsDueFor c given due
       → IsDue words files due

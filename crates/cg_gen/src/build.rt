@@ -11,12 +11,13 @@ ghost use Rattle.cg_gen.specs.Stages.{HasTree, IsLaidOutAs, description};
 use crate::due::{Change, Due};
 use crate::faults::fault_due;
 use crate::file::{laid_block, tree_of};
-use crate::texts::{modules, text_changes};
+use crate::outputs::{block_texts, changes};
 use cg_base::{List, Memory, Text};
 use cg_desc::{At, DescFault, Fault, LaidBlock};
 use cg_hjson::Tree;
-use cg_regspec::register_module_means;
+use cg_jsonspec::documents_are_sayable;
 use cg_sv::SvRegFault;
+use cg_words::RegOut;
 use std::alloc::Global;
 
 /// How many files were written; none is removed.
@@ -57,6 +58,7 @@ fn clash(at: At, name: Text) -> Fault
 /// What is due for a block that is laid out.
 fn laid_due(
     alloc: Global,
+    made: RegOut,
     dir: &str,
     file: &str,
     bytes: &[u8],
@@ -66,12 +68,12 @@ fn laid_due(
     requires stage { IsLaidOutAs bytes.now tree.now laid.now }
     requires valid { IsValidBlock (description tree.now) }
     requires laid { AllOf IsLaid laid.now.faces }
-    ensures { IfOk result (λ d. IsDueFor (record { dir = dir.now; file = file.now }) (Some bytes.now) d) }
+    ensures { IfOk result (λ d. IsDueFor (record { made = made; dir = dir.now; file = file.now }) (Some bytes.now) d) }
 {
-    register_module_means();
-    match modules(alloc, laid) {
-        Ok(modules) => {
-            let changes = text_changes(alloc, dir, modules.as_slice())?;
+    documents_are_sayable();
+    match block_texts(alloc, laid) {
+        Ok(texts) => {
+            let changes = changes(alloc, made, dir, tree, laid, texts)?;
             Ok(changes_due(alloc, changes)?)
         }
         Err(SvRegFault::Clash { name }) => Ok(fault_due(alloc, file, &clash(tree.at, name))?),
@@ -80,23 +82,36 @@ fn laid_due(
 }
 
 /// What is due for the tree of the file.
-fn tree_due(alloc: Global, dir: &str, file: &str, bytes: &[u8], tree: &Tree) -> Result<Due, Memory>
+fn tree_due(
+    alloc: Global,
+    made: RegOut,
+    dir: &str,
+    file: &str,
+    bytes: &[u8],
+    tree: &Tree,
+) -> Result<Due, Memory>
     requires { HasTree bytes.now tree.now }
-    ensures { IfOk result (λ d. IsDueFor (record { dir = dir.now; file = file.now }) (Some bytes.now) d) }
+    ensures { IfOk result (λ d. IsDueFor (record { made = made; dir = dir.now; file = file.now }) (Some bytes.now) d) }
 {
     match laid_block(alloc, bytes, tree) {
-        Ok(laid) => Ok(laid_due(alloc, dir, file, bytes, tree, &laid)?),
+        Ok(laid) => Ok(laid_due(alloc, made, dir, file, bytes, tree, &laid)?),
         Err(DescFault::Fault(fault)) => Ok(fault_due(alloc, file, &fault)?),
         Err(DescFault::Memory) => Err(Memory),
     }
 }
 
 /// What is due for the bytes that the store gave.
-pub fn given_due(alloc: Global, dir: &str, file: &str, bytes: &[u8]) -> Result<Due, Memory>
-    ensures { IfOk result (λ d. IsDueFor (record { dir = dir.now; file = file.now }) (Some bytes.now) d) }
+pub fn given_due(
+    alloc: Global,
+    made: RegOut,
+    dir: &str,
+    file: &str,
+    bytes: &[u8],
+) -> Result<Due, Memory>
+    ensures { IfOk result (λ d. IsDueFor (record { made = made; dir = dir.now; file = file.now }) (Some bytes.now) d) }
 {
     match tree_of(alloc, bytes) {
-        Ok(tree) => Ok(tree_due(alloc, dir, file, bytes, &tree)?),
+        Ok(tree) => Ok(tree_due(alloc, made, dir, file, bytes, &tree)?),
         Err(DescFault::Fault(fault)) => Ok(fault_due(alloc, file, &fault)?),
         Err(DescFault::Memory) => Err(Memory),
     }

@@ -1,6 +1,10 @@
 //! Runs over memory: what is written and printed, and the status.
 
 mod blocks;
+mod completed;
 mod faults;
+mod headers;
+mod laid;
 mod running;
+mod texts;
 mod words;

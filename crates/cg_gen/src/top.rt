@@ -7,7 +7,11 @@ use crate::perform::perform;
 use crate::plan::plan;
 use crate::stop::Stop;
 use cg_base::{Gate, Sink, Source, Steps, Store};
+use cg_done::{completed_is_same, completed_is_sound, completed_reads_back};
+use cg_hdrspec::block_header_means;
+use cg_jsonspec::documents_are_sayable;
 use cg_regspec::register_module_means;
+use cg_samespec::{read_fields_are_apart, same_is_laid};
 use cg_svspec::printed_text_stands;
 use std::alloc::Global;
 use std::sync::ledger::Ledger;
@@ -50,11 +54,12 @@ fn run_words<S: Store, O: Sink, E: Sink>(
 
 /// Does what the words say on the store and the streams, and answers the status.
 ///
-/// `words` leave out the program's name. Where they ask for register texts, as `regtool -r -t DIR FILE` does, the description FILE is
-/// read, and the register text of each device interface of its block is written into DIR (OpenTitan Register Tool). Other commands
-/// are not built yet. `input`, `gate` and `steps` are not used by this command, and no thread is started.
+/// `words` leave out the program's name. With `regtool (-r|-D|-j) -t DIR FILE` the description FILE is read, and the register text of
+/// each device interface of its block (`-r`), its C header (`-D`) or its completed description (`-j`) is written into DIR (OpenTitan
+/// Register Tool). Other commands are not built yet. `input`, `gate` and `steps` are not used by this command, and no thread is
+/// started.
 ///
-/// The status is 0 where the texts were written and told, 1 where the description has a first fault, 2 where the words are no
+/// The status is 0 where the outputs were written and told, 1 where the description has a first fault, 2 where the words are no
 /// command that is built, 3 and 4 where the store or a stream failed, and 5 where memory was not found. What each means is a clause
 /// below. No clause rules out want of memory, and where the store or a stream tells no content, the clauses on content say nothing
 /// of it.
@@ -103,7 +108,7 @@ pub fn run<R: Threads + Sync, S: Store, I: Source, O: Sink, E: Sink, G: Gate + S
     ensures complete { let before : World = world (S.content store.old) (S.read_faults store.old) (S.change_faults store.old) (O.held out.old) (O.faults out.old) (E.held err.old) (E.faults err.old) in
         let after : World = world (S.content store.new) (S.read_faults store.new) (S.change_faults store.new) (O.held out.new) (O.faults out.new) (E.held err.new) (E.faults err.new) in
         Completes result (map string_bytes words.now) before after }
-    // the bytes in the store stand for modules that act as the interfaces that the description asks for
+    // the bytes in the store mean what the description asks for: modules, a header or a completed description
     ensures meaning { result ≡ 0 →
         let before : World = world (S.content store.old) (S.read_faults store.old) (S.change_faults store.old) (O.held out.old) (O.faults out.old) (E.held err.old) (E.faults err.old) in
         let after : World = world (S.content store.new) (S.read_faults store.new) (S.change_faults store.new) (O.held out.new) (O.faults out.new) (E.held err.new) (E.faults err.new) in
@@ -111,5 +116,12 @@ pub fn run<R: Threads + Sync, S: Store, I: Source, O: Sink, E: Sink, G: Gate + S
 {
     printed_text_stands();
     register_module_means();
+    block_header_means();
+    completed_reads_back();
+    completed_is_same();
+    completed_is_sound();
+    read_fields_are_apart();
+    same_is_laid();
+    documents_are_sayable();
     code(run_words(alloc, words, store, out, err))
 }

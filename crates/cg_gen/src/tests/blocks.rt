@@ -117,6 +117,11 @@ fn entries_have_their_lines(rt: HostRuntime) -> Result<(), Fail> {
             "{multireg: {name: 'M', count: 33, swaccess: 'rw', fields: [{name: 'F', bits: 0}]}}",
             "  wire m_1_f_32_n = (we_1 ? reg_wdata[0:0] : m_1_f_32_h);\n",
         ),
+        // bit 9 is the highest that is used, so a write must strobe two bytes
+        (
+            "{name: 'R', swaccess: 'rw', fields: [{name: 'HIGH', bits: '9:8'} {name: 'LOW', bits: 0}]}",
+            "  wire wbad_0 = (hit_0 & (|(~reg_be[1:0])));\n",
+        ),
         // a skip
         (
             "{name: 'A', swaccess: 'rw', fields: [{bits: 0}]} {skipto: '0x20'} {name: 'B', swaccess: 'rw', fields: [{bits: 0}]}",

@@ -42,7 +42,7 @@ fn other_words_are_no_command(rt: HostRuntime) -> Result<(), Fail> {
         &[],
         &["regtool", "-r", "-t", "out"],
         &["regtool", "-r", "-D", "-t", "out", "b.hjson"],
-        &["regtool", "-D", "-t", "out", "b.hjson"],
+        &["regtool", "-d", "-t", "out", "b.hjson"],
         &["tlgen", "-t", "b.hjson", "-o", "out"],
         &["topgen", "-t", "b.hjson", "-o", "out", "-w", "65"],
     ];
