@@ -1,7 +1,6 @@
 //! Runs over memory: what is written and printed, and the status.
 
 mod blocks;
-mod completed;
 mod faults;
 mod headers;
 mod laid;
