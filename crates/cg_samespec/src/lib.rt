@@ -1,11 +1,13 @@
 //! Blocks that are the same but for places, as mathematics: this crate has no code that runs.
 //!
-//! Its definitions are in `specs/`: what is written of two blocks is the same (`Same`), and the law that two blocks which are the
-//! same but for the places of their parts in a file break the same rules, and that the same is written of them (`Laws`). The only
-//! rule that looks at places is the one on fields of one name; so the law asks that no two fields of a register have one name, which
-//! a second law says of every block that was read from a text.
+//! Its definitions are in `specs/`: what is written of two blocks is the same (`Same`), and the law on two blocks which are the same
+//! but for the places of their parts in a file: where one breaks no rule on names, counts, offsets and gates, the other breaks none
+//! either, and the same is written of both (`Laws`). The only such rule that looks at places is the one on fields of one name; so the
+//! law asks that no two fields of a register have one name, which a second law says of every block that was read from a text and
+//! breaks no rule on names.
 //!
-//! Not promised: anything of blocks whose fields have one name, of which an earlier one in the file decides.
+//! Not promised: anything of blocks whose fields have one name, of which an earlier one in the file decides, nor which rules two
+//! such blocks break.
 #![tactic(auto)]
 
 ghost use Rattle.cg_samespec.specs.Laws.{ReadFieldsAreApart, SameIsLaid};
