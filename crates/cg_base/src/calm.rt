@@ -1,4 +1,4 @@
-ghost use Rattle.std.specs.Prelude.{◌≡◌, [], Some};
+ghost use Rattle.std.specs.Prelude.{◌≡◌, [], IsOk, Some};
 ghost use Rattle.std.specs.Option.{option_copied};
 ghost use Rattle.std.specs.FinMap as map;
 
@@ -58,7 +58,11 @@ impl Store for CalmStore {
         Ok(())
     }
 
-    fn remove(&mut self, name: &str) -> Result<(), StoreFault> {
+    // It takes no memory, and so it always does what it was asked to.
+    fn remove(&mut self, name: &str) -> Result<(), StoreFault>
+        ensures done { IsOk result }
+        ensures removed { self.new ≡ map.remove self.old name.now }
+    {
         self.files.remove(name);
         Ok(())
     }

@@ -97,12 +97,14 @@ impl Store for MemStore {
         Ok(())
     }
 
+    // It takes no memory.
     fn remove(&mut self, name: &str) -> Result<(), StoreFault>
         ensures counted { Counts (IsErrOf result StoreFault.Failed) self.old.changes self.new.changes }
         ensures reads { self.new.reads ≡ self.old.reads }
         ensures cause { HasCause (IsErrOf result StoreFault.Failed) self.old.changes.faults self.new.changes.faults }
         ensures removed { OnOk result (self.new.files ≡ map.remove self.old.files name.now) }
         ensures refused { OnErr result (self.new.files ≡ self.old.files) }
+        ensures failed { OnErr result (result ≡ Err StoreFault.Failed) }
     {
         if self.changes.next_fails() {
             return Err(StoreFault::Failed);

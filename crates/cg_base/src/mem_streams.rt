@@ -1,4 +1,4 @@
-ghost use Rattle.std.specs.Prelude.{◌≡◌, ◌≤◌, ◌<◌, ℕ, List, Some, [], ◌++◌, OnOk, OnErr, IfOk, IsErr, IsErrOf, length, take};
+ghost use Rattle.std.specs.Prelude.{◌≡◌, ◌≤◌, ◌<◌, ℕ, List, Some, [], ◌++◌, OnOk, OnErr, IfOk, IsErr, IsErrOf, length, min, take};
 ghost use Rattle.cg_base.specs.Outside.{HasCause, Taken, TookPrefix};
 ghost use Rattle.cg_base.specs.Calls.{none_made, Counts};
 
@@ -47,6 +47,7 @@ impl Source for MemSource {
     fn fill(&mut self, buf: &mut [u8]) -> Result<usize, Failed>
         ensures counted { Counts (IsErr result) self.old.calls self.new.calls }
         ensures bound { IfOk result (λ n. n ≤ length buf.new) }
+        ensures most { IfOk result (λ n. n ≡ min (length self.old.left) (length buf.old)) }
         ensures taken { IfOk result (λ n. Taken (Some self.old.left) (Some self.new.left) (take n buf.new)) }
         ensures end { IfOk result (λ n. n ≡ 0 → 0 < length buf.new → (rest : List ℕ) → Some self.old.left ≡ Some rest → rest ≡ []) }
         ensures kept { OnErr result (self.new.left ≡ self.old.left) }
@@ -61,8 +62,8 @@ impl Source for MemSource {
 
 /// A sink in memory that fails at the calls that it is told.
 ///
-/// It counts its calls from 1 and answers `Failed` exactly at those of its list, and then it has
-/// taken nothing. The bytes that it took are told.
+/// It counts its calls from 1 and answers `Failed` exactly at those of its list. Where it refuses a
+/// piece it has taken nothing of it. The bytes that it took are told.
 #[derive(Drop)]
 pub struct MemSink {
     held: List<u8>,
@@ -106,6 +107,7 @@ impl Sink for MemSink {
         ensures counted { Counts (IsErrOf result SinkFault.Failed) self.old.calls self.new.calls }
         ensures taken { OnOk result (self.new.held ≡ self.old.held ++ bytes.now) }
         ensures part { OnErr result (TookPrefix (Some self.old.held) (Some self.new.held) bytes.now) }
+        ensures refused { OnErr result (self.new.held ≡ self.old.held) }
         ensures cause { HasCause (IsErrOf result SinkFault.Failed) self.old.calls.faults self.new.calls.faults }
     {
         if self.calls.next_fails() {

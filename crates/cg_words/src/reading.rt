@@ -213,7 +213,8 @@ fn matches_by<'a>(
 }
 
 fn fault_by(error: &Error) -> WordsFault
-    ensures { result ≡ fault.NotCommand → kind_of error.now ≢ OutOfMemory }
+    ensures refused { result ≡ fault.NotCommand → kind_of error.now ≢ OutOfMemory }
+    ensures memory { result ≡ fault.Memory → kind_of error.now ≡ OutOfMemory }
 {
     match error.kind() {
         ErrorKind::OutOfMemory => WordsFault::Memory,

@@ -60,6 +60,20 @@ fn readers_are_sources(rt: HostRuntime) {
     assert_eq!(rt; StdSource::new(Broken).fill(&mut buf), Err(Failed));
 }
 
+// A writer that takes all bytes, and fails where they are to be passed on.
+#[derive(Drop)]
+struct Stuck;
+
+impl Write for Stuck {
+    fn write(&mut self, buf: &[u8]) -> io::Result<usize> {
+        Ok(buf.len())
+    }
+
+    fn flush(&mut self) -> io::Result<()> {
+        Err(io::Error::from(ErrorKind::BrokenPipe))
+    }
+}
+
 #[test]
 fn writers_are_sinks(rt: HostRuntime) -> Result<(), Fail> {
     let mut held = Vec::new(rt.alloc());
@@ -68,5 +82,6 @@ fn writers_are_sinks(rt: HostRuntime) -> Result<(), Fail> {
     sink.put(b"c")?;
     assert_eq!(rt; held.as_slice(), b"abc".as_slice());
     assert_eq!(rt; StdSink::new(Broken).put(b"d"), Err(SinkFault::Failed));
+    assert_eq!(rt; StdSink::new(Stuck).put(b"d"), Err(SinkFault::Failed));
     Ok(())
 }

@@ -8,4 +8,4 @@ returns-in-Ok-clause-rows c = (c.in-Ok.ensures.matches (free_simple (app_of c.ar
 
 pub returns-in-Err-clause-refused : goal.returns-in-Err-clause-refused
 returns-in-Err-clause-refused c = λ is.
-    refused (app_of c.args.command) (map string_bytes c.args.words.now) c.in-Err.error c.requires c.in-Err.ensures.kinds (c.fault_by.ensures is)
+    refused (app_of c.args.command) (map string_bytes c.args.words.now) c.in-Err.error c.requires c.in-Err.ensures.kinds (c.fault_by.ensures.refused is)
