@@ -6,6 +6,21 @@ COMMENTS = ["# a comment\n", "// registers: []\n", "/* { */", "/* two\n lines */
 PLAIN = re.compile(r"(?!(true|false|null)$)[A-Za-z_][A-Za-z0-9_]*|[0-9]+:[0-9]+")
 
 
+class Spelled(str):
+    """A value that is spelled as it stands."""
+
+
+class Doubled(dict):
+    """An object that has some members twice: `again` are those that stand once more."""
+
+    def __init__(self, members, again):
+        super().__init__(members)
+        self.again = again
+
+    def items(self):
+        return [*super().items(), *self.again]
+
+
 def json_text(description):
     """The description as JSON."""
     return json.dumps(description, indent=1) + "\n"
@@ -32,6 +47,8 @@ def closed(text, chance):
 
 def value_text(value, chance):
     """A value: an object, a list, a string, a number or a boolean."""
+    if isinstance(value, Spelled):
+        return str(value)
     if isinstance(value, dict):
         members = chance.sample(list(value.items()), len(value))
         return enclosed("{", [member_text(key, part, chance) for key, part in members], "}", chance)

@@ -1,0 +1,150 @@
+"""The forms of values, and what an object breaks of its keys, after docs/FORMATS.md.
+
+What is broken is told as (phase, place, rule, name); the least of them is the first fault.
+"""
+import re
+
+WORD = re.compile(r"[A-Za-z_][A-Za-z0-9_]*")
+QUOTED = {"module", "endmodule", "input", "output", "wire", "assign"}
+DECIMAL = re.compile(r"[0-9]+(_[0-9]+)*")
+HEXADECIMAL = re.compile(r"0[xX]([0-9a-fA-F]+(_[0-9a-fA-F]+)*)")
+BINARY = re.compile(r"0[bB]([01]+(_[01]+)*)")
+SOFTWARE = {"ro", "rc", "rw", "r0w1c", "rw1s", "rw1c", "rw0c", "wo", "none"}
+HARDWARE = {"hro", "hrw", "hwo", "none"}
+WORD_MOST = (1 << 32) - 1
+NAME, LONG_NAME = ("name", 40), ("name", 80)
+TEXT, BOOLEAN, LIST, OBJECT = ("text",), ("boolean",), ("list",), ("object",)
+NUMBER = ("number", 0, WORD_MOST)
+
+
+def one_of(*words):
+    return ("word", frozenset(words))
+
+
+def number(value):
+    """The number that a value is, if it is one of at most 128 bits."""
+    if value is None:
+        return None
+    if value.kind == "int":
+        return value.data if value.data >= 0 else None
+    if value.kind != "str":
+        return None
+    for form, base in [(DECIMAL, 10), (HEXADECIMAL, 16), (BINARY, 2)]:
+        found = form.fullmatch(value.data)
+        if found:
+            made = int((found[1] if base != 10 else found[0]).replace("_", ""), base)
+            return made if made < 1 << 128 else None
+    return None
+
+
+def boolean(value):
+    """The truth of a value: `true` or `false`, or one of these as a string."""
+    if value is None:
+        return None
+    if value.kind == "bool":
+        return value.data
+    return {"true": True, "false": False}.get(value.data) if value.kind == "str" else None
+
+
+def is_name(text, most):
+    return bool(WORD.fullmatch(text)) and len(text) <= most and text not in QUOTED
+
+
+def fits(value, form):
+    kind, *limits = form
+    if kind == "number":
+        found = number(value)
+        return found is not None and limits[0] <= found <= limits[1]
+    if kind == "boolean":
+        return boolean(value) is not None
+    if kind in ("list", "object"):
+        return value.kind == kind
+    if value.kind != "str":
+        return False
+    if kind == "name":
+        return is_name(value.data, limits[0])
+    return kind == "text" or value.data in limits[0]
+
+
+def takes(value, form):
+    """Whether the form has values of this value's kind in Hjson."""
+    kinds = {"number": {"int", "str"}, "boolean": {"bool", "str"}, "list": {"list"}, "object": {"object"}}
+    return value.kind in kinds.get(form[0], {"str"})
+
+
+def unfit(key, value, *forms):
+    """What a value breaks that has none of these forms."""
+    if any(fits(value, form) for form in forms):
+        return []
+    if not any(takes(value, form) for form in forms):
+        rule = 22
+    elif any(form[0] == "number" for form in forms):
+        rule = 24
+    elif any(form[0] == "name" for form in forms):
+        rule = 25
+    else:
+        rule = 22
+    return [(2, value.place, rule, key)]
+
+
+def is_fit(holder, key, *forms):
+    """Whether the key is absent, or its value has one of the forms."""
+    value = holder.member(key)
+    return value is None or any(fits(value, form) for form in forms)
+
+
+def of_table(holder, table):
+    """What an object breaks of a table: a key with its forms, the first of which is None where the key may be absent."""
+    if holder.kind != "object":
+        return []
+    broken = []
+    for key, forms in table.items():
+        value, optional = holder.member(key), forms[0] is None
+        if value is not None:
+            broken += unfit(key, value, *[form for form in forms if form])
+        elif not optional:
+            broken.append((2, holder.place, 21, key))
+    return broken
+
+
+def elements(holder, key, form=OBJECT):
+    """The list at a key has an element that has not this form."""
+    value = holder.member(key)
+    return of_list(key, value, form) if value is not None else []
+
+
+def of_list(key, value, form):
+    return [(2, value.place, 22, key)] if not all(fits(item, form) for item in value.items()) else []
+
+
+def length(holder, key, least, most):
+    value = holder.member(key)
+    if value is None or value.kind != "list" or least <= len(value.data) <= most:
+        return []
+    return [(2, value.place, 22, key)]
+
+
+def listed(holder, key):
+    """The elements of the list at a key."""
+    value = holder.member(key)
+    return [] if value is None else value.items()
+
+
+def text(holder, key):
+    """The string at a key."""
+    value = holder.member(key)
+    return value.data if value is not None and value.kind == "str" else None
+
+
+def repeated(value):
+    """Keys that stand twice in an object, anywhere below."""
+    if value.kind == "list":
+        return [broken for item in value.data for broken in repeated(item)]
+    if value.kind != "object":
+        return []
+    seen, broken = set(), []
+    for key, place, held in value.data:
+        broken += [(2, place, 20, key)] if key in seen else []
+        seen.add(key)
+        broken += repeated(held)
+    return broken

@@ -1,0 +1,133 @@
+"""A block's completed description, after docs/FORMATS.md: its tree with everything said, as JSON. It shares nothing with the program."""
+import json
+
+from model.forms import boolean, listed, number, text
+from model.rules import KNOWN_BY, LISTS, fields_of, mask_of, span
+
+REGISTER_SWITCHES = ["hwext", "hwqe", "hwre"]
+
+
+def plain(value):
+    """A value as Python data, as it stands."""
+    if value.kind == "list":
+        return [plain(item) for item in value.data]
+    if value.kind == "object":
+        return {key: plain(held) for key, _, held in value.data}
+    return value.data
+
+
+def put_number(made, holder, key, default=None):
+    """The number at a key in its plain form; a name that stands there stays."""
+    found = number(holder.member(key))
+    if found is not None:
+        made[key] = found
+    elif default is not None and holder.member(key) is None:
+        made[key] = default
+
+
+def put_boolean(made, holder, key, default=False):
+    found = boolean(holder.member(key))
+    made[key] = default if found is None else found
+
+
+def full_list(holder, key, full):
+    """The elements of the list at a key, completed."""
+    return [full(item) for item in listed(holder, key)]
+
+
+def sized(item):
+    """A pin, or an interrupt."""
+    made = plain(item)
+    put_number(made, item, "width", 1)
+    return made
+
+
+def interrupt(item):
+    return {"type": "event"} | sized(item)
+
+
+def parameter(item):
+    made, found = plain(item), number(item.member("default"))
+    if found is not None and found < 1 << 32:
+        made["default"] = found
+    return made
+
+
+def reset_of(register, field, held):
+    """A field's own reset value, or its bits of the register's, or 0."""
+    value = held.member("resval")
+    if value is None:
+        whole = register.member("resval")
+        whole = 0 if whole is None else number(whole) if number(whole) is not None else int(boolean(whole))
+        return (whole & mask_of(field)) >> field.low
+    if number(value) is not None:
+        return number(value)
+    if boolean(value) is None:
+        return 0
+    return (6 if boolean(value) else 9) if field.mubi else int(boolean(value))
+
+
+def full_field(register, field, held):
+    made = plain(held)
+    high, low = span(held.member("bits"))
+    made |= {"bits": f"{high}:{low}", "name": field.name, "swaccess": field.software, "hwaccess": field.hardware, "mubi": field.mubi,
+             "resval": reset_of(register, field, held)}
+    return made
+
+
+def full_register(register):
+    made = {"swaccess": "none", "hwaccess": "hro"} | plain(register)
+    for key in REGISTER_SWITCHES:
+        put_boolean(made, register, key)
+    value = register.member("resval")
+    if value is not None:
+        made["resval"] = number(value) if number(value) is not None else int(boolean(value))
+    made["fields"] = [full_field(register, field, held) for field, held in zip(fields_of(register), listed(register, "fields"))]
+    return made
+
+
+def full_multireg(multireg):
+    made = full_register(multireg)
+    put_number(made, multireg, "count")
+    put_boolean(made, multireg, "regwen_multi")
+    put_boolean(made, multireg, "compact", len(made["fields"]) == 1 and not made["regwen_multi"])
+    return made
+
+
+def full_window(window):
+    made = {"swaccess": "rw"} | plain(window)
+    put_number(made, window, "items")
+    put_boolean(made, window, "byte-write")
+    return made
+
+
+def full_entry(entry):
+    known = next((key for key in KNOWN_BY if entry.member(key) is not None), None)
+    if known is None:
+        return full_register(entry)
+    made, value = plain(entry), entry.member(known)
+    full = {"multireg": full_multireg, "window": full_window}.get(known, number)
+    made[known] = full(value)
+    return made
+
+
+def full_block(block):
+    """The block with everything said, as Python data."""
+    made = plain(block)
+    fulls = {"interrupt_list": interrupt, "alert_list": plain, "param_list": parameter}
+    for key in LISTS:
+        made[key] = full_list(block, key, fulls.get(key, sized))
+    for key in ["no_auto_intr_regs", "no_auto_alert_regs"]:
+        put_boolean(made, block, key)
+    put_number(made, block, "regwidth", 32)
+    registers = block.member("registers")
+    if registers.kind == "list":
+        made["registers"] = full_list(block, "registers", full_entry)
+    else:
+        made["registers"] = {key: [full_entry(entry) for entry in value.data] for key, _, value in registers.data}
+    return made
+
+
+def completed_text(block):
+    """The name of the file without its ending, and its text."""
+    return text(block, "name"), json.dumps(full_block(block), indent=2, sort_keys=True, ensure_ascii=False) + "\n"

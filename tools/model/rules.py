@@ -1,0 +1,536 @@
+"""The first fault of a block's description, after docs/FORMATS.md, from its text on. It shares nothing with the program."""
+import dataclasses
+import re
+
+from model import document
+from model.forms import (BOOLEAN, HARDWARE, LIST, LONG_NAME, NAME, NUMBER, OBJECT, SOFTWARE, TEXT, boolean, elements, fits,
+                         is_fit, length, listed, number, of_list, of_table, one_of, repeated, text, unfit)
+from model.layout import READABLE, WRITABLE
+
+PHRASES = {
+    10: "file absent", 11: "too large", 12: "not UTF-8", 15: "not a document", 16: "too deep", 20: "duplicate key",
+    21: "missing key", 22: "wrong kind", 24: "not a number", 25: "bad name", 26: "outside the profile", 30: "bad bits",
+    31: "fields overlap", 32: "reset value too wide", 33: "no fields or items", 34: "name twice", 35: "unknown regwen",
+    36: "bad regwen", 37: "bad count", 38: "too many", 39: "skip back", 40: "bad window", 41: "past the end",
+    42: "too many interrupt bits", 70: "generated names clash",
+}
+LIMIT, END = 1 << 20, 1 << 24
+BITS = re.compile(r"([0-9]+):([0-9]+)")
+LISTS = ["interrupt_list", "alert_list", "param_list", "available_input_list", "available_output_list", "available_inout_list"]
+BLOCK = {
+    "name": [NAME], "clocking": [LIST], "bus_interfaces": [LIST], "registers": [LIST, OBJECT],
+    **{key: [None, LIST] for key in LISTS},
+    "no_auto_intr_regs": [None, BOOLEAN], "no_auto_alert_regs": [None, BOOLEAN], "regwidth": [None, NUMBER],
+}
+PIN = {"name": [NAME], "width": [None, ("number", 1, 64)]}
+OF_LISTS = {
+    "clocking": {"clock": [NAME], "reset": [None, NAME]},
+    "bus_interfaces": {"protocol": [TEXT], "direction": [one_of("device", "host")], "name": [None, NAME]},
+    "interrupt_list": {"name": [NAME], "type": [None, one_of("event", "status")], "width": [None, ("number", 1, 32)]},
+    "alert_list": {"name": [NAME]}, "param_list": {"name": [LONG_NAME], "default": [None, NUMBER, TEXT]},
+    "available_input_list": PIN, "available_output_list": PIN, "available_inout_list": PIN,
+}
+REGISTER = {
+    "name": [NAME], "swaccess": [None, one_of(*SOFTWARE)], "hwaccess": [None, one_of(*HARDWARE)],
+    "hwext": [None, BOOLEAN], "hwqe": [None, BOOLEAN], "hwre": [None, BOOLEAN], "regwen": [None, TEXT],
+    "resval": [None, NUMBER, BOOLEAN], "fields": [LIST],
+}
+MULTIREG = REGISTER | {"count": [NUMBER, LONG_NAME], "cname": [None, TEXT], "regwen_multi": [None, BOOLEAN],
+                       "compact": [None, BOOLEAN]}
+WINDOW = {"name": [NAME], "items": [NUMBER, LONG_NAME], "byte-write": [None, BOOLEAN],
+          "swaccess": [None, one_of("rw", "ro", "wo")]}
+FIELD = {"bits": [TEXT, NUMBER], "name": [None, NAME], "swaccess": [None, one_of(*SOFTWARE)],
+         "hwaccess": [None, one_of(*HARDWARE)], "resval": [None, NUMBER, BOOLEAN, one_of("x")], "mubi": [None, BOOLEAN]}
+KNOWN_BY = ["multireg", "window", "skipto", "reserved"]
+
+
+def outside(holder, key, only_if_true=False):
+    """The key's presence, or its truth, is outside the profile."""
+    value = holder.member(key)
+    if value is None or (only_if_true and boolean(value) is not True):
+        return []
+    return [(2, value.place, 26, key)]
+
+
+def span(value):
+    """The highest and lowest bit of `bits`, where it is good."""
+    if value is None:
+        return None
+    found = number(value)
+    if found is not None and found <= 31:
+        return found, found
+    ends = BITS.fullmatch(value.data) if value.kind == "str" else None
+    if ends and 31 >= int(ends[1]) >= int(ends[2]):
+        return int(ends[1]), int(ends[2])
+    return None
+
+
+# ---- keys
+
+def field_keys(register, field):
+    """What a field breaks of the rules on keys."""
+    if field.kind != "object":
+        return []
+    held = field.member("swaccess") or register.member("swaccess")
+    kind = "none" if held is None else held.data if fits(held, one_of(*SOFTWARE)) else None
+    bits = span(field.member("bits"))
+    strange = (bits is not None and bits[0] - bits[1] != 3) or (kind is not None and kind not in ("rw", "ro", "wo"))
+    return of_table(field, FIELD) + (outside(field, "mubi", True) if strange else [])
+
+
+def register_keys(register, table):
+    broken = of_table(register, table) + elements(register, "fields") + outside(register, "shadowed", True)
+    for key in ["async", "sync", "alias_target"]:
+        broken += outside(register, key)
+    for field in listed(register, "fields"):
+        broken += field_keys(register, field)
+    return broken
+
+
+def multireg_keys(multireg):
+    if multireg.kind != "object":
+        return unfit("multireg", multireg, OBJECT)
+    fields = multireg.member("fields")
+    clear = (fields is not None and fields.kind == "list" and all(field.kind == "object" for field in fields.data)
+             and is_fit(multireg, "regwen_multi", BOOLEAN))
+    several = clear and (len(fields.data) > 1 or boolean(multireg.member("regwen_multi")) is True)
+    return register_keys(multireg, MULTIREG) + (outside(multireg, "compact", True) if several else [])
+
+
+def entry_keys(entry):
+    if entry.kind != "object":
+        return []
+    broken = outside(entry, "sameaddr")
+    known = next((key for key in KNOWN_BY if entry.member(key) is not None), None)
+    if known is None:
+        return broken + register_keys(entry, REGISTER)
+    value = entry.member(known)
+    if known == "multireg":
+        return broken + multireg_keys(value)
+    if known == "window":
+        return broken + unfit("window", value, OBJECT) + of_table(value, WINDOW)
+    return broken + unfit(known, value, NUMBER)
+
+
+def entry_lists(block):
+    """The lists of entries with their keys: `registers`, or each of its members."""
+    value = block.member("registers")
+    if value is None:
+        return []
+    if value.kind == "object":
+        return [(key, held) for key, _, held in value.first_members()]
+    return [("registers", value)]
+
+
+def faces(block, direction):
+    return [face for face in listed(block, "bus_interfaces") if text(face, "direction") == direction]
+
+
+def good_faces(block):
+    """Whether each interface is an object with a direction, whose direction and name have their forms."""
+    value = block.member("bus_interfaces")
+    return value is not None and value.kind == "list" and all(
+        face.kind == "object" and face.member("direction") is not None
+        and is_fit(face, "direction", one_of("device", "host")) and is_fit(face, "name", NAME) for face in value.data)
+
+
+def face_keys(block):
+    devices, hosts = faces(block, "device"), faces(block, "host")
+    buses, registers = block.member("bus_interfaces"), block.member("registers")
+    broken = [(2, buses.place, 22, "bus_interfaces")] if len(devices) > 8 else []
+    if not good_faces(block):
+        return broken
+    names = [text(face, "name") for face in devices]
+    if len(devices) > 1:
+        broken += [(2, face.place, 21, "name") for face in devices if text(face, "name") is None]
+    for one_way in [names, [text(face, "name") for face in hosts]]:
+        if len(set(one_way)) < len(one_way):
+            broken.append((2, buses.place, 22, "bus_interfaces"))
+    if registers is None or registers.kind not in ("list", "object"):
+        return broken
+    wants_list = not names or names == [None]
+    if registers.kind == "list":
+        stray = not names and registers.data
+    else:
+        stray = any(value.items() for key, _, value in registers.first_members() if key not in names)
+        broken += [(2, registers.place, 21, name) for name in names if name and registers.member(name) is None]
+    if stray or wants_list != (registers.kind == "list"):
+        broken.append((2, registers.place, 22, "registers"))
+    return broken
+
+
+def block_keys(block):
+    """All that a block breaks of the rules on keys, kinds and the profile."""
+    broken = repeated(block) + of_table(block, BLOCK) + face_keys(block)
+    for key, table in OF_LISTS.items():
+        broken += elements(block, key)
+        for item in listed(block, key):
+            broken += of_table(item, table)
+    for key, least in [("clocking", 1), *[(key, 0) for key in LISTS[3:]]]:
+        broken += length(block, key, least, 64)
+    if fits(block.member("regwidth") or document.Value("int", 32, 0), NUMBER):
+        broken += outside(block, "regwidth") if number(block.member("regwidth")) not in (None, 32) else []
+    for face in listed(block, "bus_interfaces"):
+        broken += outside(face, "protocol") if text(face, "protocol") not in (None, "tlul") else []
+    for key, value in entry_lists(block):
+        broken += unfit(key, value, LIST) + of_list(key, value, OBJECT)
+        for entry in value.items():
+            broken += entry_keys(entry)
+    return broken
+
+
+# ---- values
+
+@dataclasses.dataclass(eq=False)
+class Field:
+    """A field as it is written: its name, the place of its name or bits, its bits, and how it is accessed."""
+    name: str
+    place: int
+    high: int
+    low: int
+    software: str
+    hardware: str
+    mubi: bool
+
+
+@dataclasses.dataclass(eq=False)
+class Item:
+    """A register or window of an interface, or a skip or reservation, whose `span` is the number that it has."""
+    kind: str
+    name: str
+    place: int
+    fields: list = dataclasses.field(default_factory=list)
+    entry: object = None
+    gate: str | None = None
+    span: int = 0
+
+
+def fields_of(register):
+    """The fields of a register in written order; those without good bits have None for them."""
+    written = listed(register, "fields")
+    made = []
+    for count, field in enumerate(written, 1):
+        bits = span(field.member("bits")) or (None, None)
+        named = field.member("name")
+        name = named.data if named is not None else text(register, "name") if len(written) == 1 else f"field{count}"
+        place = (named or field.member("bits")).place
+        made.append(Field(name, place, *bits, text(field, "swaccess") or text(register, "swaccess") or "none",
+                          text(field, "hwaccess") or text(register, "hwaccess") or "hro",
+                          boolean(field.member("mubi")) is True))
+    return made
+
+
+def mask_of(field):
+    return (2 << field.high) - (1 << field.low)
+
+
+def reset_number(value):
+    found = number(value)
+    return int(boolean(value) is True) if found is None else found
+
+
+def register_values(register):
+    name, fields, broken = text(register, "name"), fields_of(register), []
+    written = listed(register, "fields")
+    if not written:
+        broken.append((3, register.member("fields").place, 33, name))
+    taken = 0
+    for field, held in zip(fields, written):
+        if field.high is None:
+            broken.append((3, held.member("bits").place, 30, name))
+            continue
+        if taken & mask_of(field):
+            broken.append((3, held.member("bits").place, 31, field.name))
+        taken |= mask_of(field)
+        value = held.member("resval")
+        if value is not None and reset_number(value) >= 1 << (field.high - field.low + 1):
+            broken.append((3, value.place, 32, name))
+    value = register.member("resval")
+    if value is not None and all(field.high is not None for field in fields) and reset_number(value) & ~taken:
+        broken.append((3, value.place, 32, name))
+    return broken
+
+
+def amount(block, value):
+    """A number, or the number of the first parameter of that name."""
+    found = number(value)
+    if found is not None:
+        return found
+    for parameter in listed(block, "param_list"):
+        if text(parameter, "name") == value.data:
+            found = number(parameter.member("default"))
+            return found if found is not None and found < 1 << 32 else None
+    return None
+
+
+def entry_values(block, entry):
+    multireg, window = entry.member("multireg"), entry.member("window")
+    if multireg is not None:
+        count = amount(block, multireg.member("count"))
+        bad = count is None or not 1 <= count <= 4096
+        return register_values(multireg) + (
+            [(3, multireg.member("count").place, 37, text(multireg, "name"))] if bad else [])
+    if window is not None:
+        items = amount(block, window.member("items"))
+        bad = items is None or not 1 <= items <= 1 << 22
+        return [(3, window.member("items").place, 40, text(window, "name"))] if bad else []
+    if any(entry.member(key) is not None for key in KNOWN_BY):
+        return []
+    return register_values(entry)
+
+
+# ---- items
+
+def automatic_items(block):
+    """The registers that come of the block's interrupts and alerts, in front of the first device interface."""
+    made = []
+    for key, switch, names in [("interrupt_list", "no_auto_intr_regs", ["INTR_STATE", "INTR_ENABLE", "INTR_TEST"]),
+                               ("alert_list", "no_auto_alert_regs", ["ALERT_TEST"])]:
+        if listed(block, key) and boolean(block.member(switch)) is not True:
+            for name in names:
+                made.append(Item("register", name, block.member(key).place, automatic_fields(block, key, name)))
+    return made
+
+
+def automatic_fields(block, key, register):
+    made, low = [], 0
+    for source in listed(block, key):
+        width = number(source.member("width")) if key == "interrupt_list" and source.member("width") else 1
+        state = "ro" if text(source, "type") == "status" else "rw1c"
+        software = {"INTR_STATE": state, "INTR_ENABLE": "rw"}.get(register, "wo")
+        made.append(Field(text(source, "name"), source.member("name").place, low + width - 1, low, software,
+                          "hrw" if register == "INTR_STATE" else "hro", False))
+        low += width
+    return made
+
+
+def copies(block, multireg):
+    """The registers of a multireg."""
+    fields, name, gate = fields_of(multireg), text(multireg, "name"), text(multireg, "regwen")
+    count = amount(block, multireg.member("count"))
+    own_gates = boolean(multireg.member("regwen_multi")) is True
+    chosen = boolean(multireg.member("compact"))
+    compact = len(fields) == 1 and not own_gates and chosen is not False
+    step = fields[0].high + 1
+    in_a_word = 32 // step if compact else 1
+    words = [range(first, min(first + in_a_word, count)) for first in range(0, count, in_a_word)]
+    made = []
+    for number_of_word, word in enumerate(words):
+        held = [dataclasses.replace(field, name=f"{field.name}_{copy}", high=field.high + step * place * compact,
+                                    low=field.low + step * place * compact)
+                for place, copy in enumerate(word) for field in fields]
+        asked = f"{gate}_{number_of_word}" if gate is not None and own_gates and count > 1 else gate
+        made.append(Item("register", name + (f"_{number_of_word}" if len(words) > 1 else ""),
+                         multireg.member("name").place, held, multireg, asked))
+    return made
+
+
+def items_of(block, entry):
+    """What an entry stands for."""
+    if entry.member("multireg") is not None:
+        return copies(block, entry.member("multireg"))
+    window = entry.member("window")
+    if window is not None:
+        return [Item("window", text(window, "name"), window.member("name").place, entry=window,
+                     span=amount(block, window.member("items")))]
+    for key in ["skipto", "reserved"]:
+        if entry.member(key) is not None:
+            return [Item(key, "", entry.member(key).place, span=number(entry.member(key)))]
+    return [Item("register", text(entry, "name"), entry.member("name").place, fields_of(entry), entry, text(entry, "regwen"))]
+
+
+def interfaces(block):
+    """The device interfaces: name, the value that is the list of its entries, and its items."""
+    made = []
+    for count, face in enumerate(faces(block, "device")):
+        name, registers = text(face, "name"), block.member("registers")
+        value = registers if registers.kind == "list" else registers.member(name)
+        items = automatic_items(block) if count == 0 else []
+        for entry in value.items():
+            items += items_of(block, entry)
+        made.append((name, value, items))
+    return made
+
+
+def is_row(item):
+    return item.kind in ("register", "window")
+
+
+def twice(named, broken):
+    """Tells each name that stands earlier, by a key under which names are the same."""
+    seen = set()
+    for name, place, key in named:
+        if key in seen:
+            broken.append((4, place, 34, name))
+        seen.add(key)
+
+
+def block_items(block):
+    broken, rows, field_count = [], 0, 0
+    for _, _, items in interfaces(block):
+        held = [item for item in items if is_row(item)]
+        twice([(item.name, item.place, item.name.lower()) for item in held], broken)
+        for item in held:
+            twice([(field.name, field.place, field.name.lower()) for field in item.fields], broken)
+        rows += len(held)
+        field_count += sum(len(item.fields) for item in held)
+    if rows > 2048 or field_count > 4096:
+        broken.append((4, block.member("registers").place, 38, ""))
+    widths = [number(source.member("width")) if source.member("width") else 1 for source in listed(block, "interrupt_list")]
+    if sum(widths) > 32:
+        broken.append((4, block.member("interrupt_list").place, 42, ""))
+    if len(listed(block, "alert_list")) > 32:
+        broken.append((4, block.member("alert_list").place, 42, ""))
+    return broken
+
+
+# ---- offsets
+
+def may_gate(item):
+    external = item.entry is not None and boolean(item.entry.member("hwext")) is True
+    external = external or (item.entry is None and item.name in ("INTR_TEST", "ALERT_TEST"))
+    field = item.fields[0]
+    return len(item.fields) == 1 and field.high == field.low and field.software in READABLE and not field.mubi and not external
+
+
+def gates(items):
+    broken, registers = [], {item.name.lower(): item for item in items if item.kind == "register"}
+    for item in items:
+        if item.gate is None:
+            continue
+        place, gate = item.entry.member("regwen").place, registers.get(item.gate.lower())
+        if gate is None:
+            broken.append((5, place, 35, item.gate))
+        elif not may_gate(gate):
+            broken.append((5, place, 36, item.gate))
+    return broken
+
+
+def offsets(items):
+    """What the offsets of an interface's items break; nothing is looked for after the first."""
+    following = 0
+    for item in items:
+        if item.kind == "skipto":
+            if item.span % 4 or item.span < following:
+                return [(5, item.place, 39, "")]
+            following = item.span
+        elif item.kind == "reserved":
+            following += 4 * item.span
+        else:
+            size = 4 if item.kind == "register" else 4 << (item.span - 1).bit_length()
+            following = -(-following // size) * size + size
+        if following > END:
+            return [(5, item.place, 41, item.name)]
+    return []
+
+
+def block_offsets(block):
+    broken = []
+    for name, value, items in interfaces(block):
+        if not any(is_row(item) for item in items):
+            broken.append((5, value.place, 33, name or ""))
+        broken += gates(items) + offsets(items)
+    return broken
+
+
+# ---- names
+
+def field_ports(item, field, external):
+    """The ports of a field, in their order."""
+    entry, software = item.entry, field.software
+    if external:
+        kinds = ["q", "qe"] * (software in WRITABLE) + ["re", "d"] * (software in READABLE)
+    else:
+        strobes = [key for key, switch in [("qe", "hwqe"), ("re", "hwre")] if entry and boolean(entry.member(switch)) is True]
+        kinds = (["q"] * (field.hardware in ("hro", "hrw")) + strobes + ["d", "de"] * (field.hardware in ("hwo", "hrw")))
+    return [f"{item.name}_{field.name}".lower() + "_" + kind for kind in kinds]
+
+
+def is_external(item):
+    if item.entry is None:
+        return item.name in ("INTR_TEST", "ALERT_TEST")
+    return boolean(item.entry.member("hwext")) is True
+
+
+def module_names(items):
+    """The names of an interface's register module: its ports, then its wires and instances in the text's order."""
+    rows = [item for item in items if is_row(item)]
+    names = ["clk_i", "rst_ni", "reg_we", "reg_re", "reg_addr", "reg_wdata", "reg_be", "reg_rdata", "reg_error"]
+    stored = []
+    for row in rows:
+        if row.kind == "window":
+            names += [f"win_{row.name.lower()}_{kind}" for kind in ["we", "re", "addr", "wdata", "be", "rdata"]]
+        for field in sorted(row.fields, key=lambda field: field.low):
+            names += field_ports(row, field, is_external(row))
+            stored += [] if is_external(row) else [f"{row.name}_{field.name}".lower()]
+    names += [f"{net}_s" for net in stored]
+    for count in range(len(rows)):
+        names += [f"{kind}_{count}" for kind in ["hit", "wbad", "rbad", "we", "re", "rd"]]
+    names += ["hit_any", "wbad_any", "rbad_any"]
+    for net in stored:
+        names += [f"{net}_h", f"{net}_n"]
+    return names + [f"u_{net}" for net in stored]
+
+
+def header_names(block):
+    """The names that a block's header defines."""
+    head = text(block, "name").upper()
+    names = [f"_{head}_REG_DEFS_", f"{head}_PARAM_REG_WIDTH"]
+    for face, _, items in interfaces(block):
+        prefix = head if face is None else f"{head}_{face.upper()}"
+        for row in items:
+            start = f"{prefix}_{row.name.upper()}"
+            if row.kind == "window":
+                names += [f"{start}_REG_OFFSET", f"{start}_SIZE_WORDS", f"{start}_SIZE_BYTES"]
+            elif row.kind == "register":
+                names += [f"{start}_REG_OFFSET", f"{start}_REG_RESVAL"]
+                for field in sorted(row.fields, key=lambda field: field.low):
+                    own = f"{start}_{field.name.upper()}"
+                    names += [f"{own}_BIT"] if field.high == field.low else [f"{own}_MASK", f"{own}_OFFSET"]
+    return names
+
+
+def clash(block):
+    for names in [*[module_names(items) for _, _, items in interfaces(block)], header_names(block)]:
+        seen = set()
+        for name in names:
+            if name in seen:
+                return [(12, block.place, 70, name)]
+            seen.add(name)
+    return []
+
+
+# ---- the whole
+
+def first_broken(bytes_of_file):
+    """The first fault: its rule, its place in characters, and its name; None where there is none."""
+    if len(bytes_of_file) > LIMIT:
+        return 11, "", ""
+    try:
+        whole = bytes_of_file.decode()
+    except UnicodeDecodeError as error:
+        return 12, bytes_of_file[:error.start].decode(), ""
+    root, failed = document.read(whole)
+    if root is None:
+        return failed[0], whole[:failed[1]], ""
+    for phase in [block_keys, block_all_values, block_items, block_offsets, clash]:
+        broken = phase(root)
+        if broken:
+            _, place, rule, name = min(broken, key=lambda found: (found[1], found[2], found[3].encode()))
+            return rule, whole[:place], name
+    return None
+
+
+def block_all_values(block):
+    return [broken for _, value in entry_lists(block) for entry in value.items() for broken in entry_values(block, entry)]
+
+
+def first_line(name_of_file, bytes_of_file):
+    """The line that tells the first fault of a file; None where there is none."""
+    found = first_broken(bytes_of_file)
+    if found is None:
+        return None
+    rule, before, name = found
+    line, column = before.count("\n") + 1, len(before) - (before.rfind("\n") + 1) + 1
+    told = f"{name_of_file}:{line}:{column}: fault {rule}: {PHRASES[rule]}"
+    return told + (f": {name}\n" if name else "\n")
