@@ -1,7 +1,7 @@
 //! The bits of a field.
 
 ghost use Rattle.std.specs.Prelude.{◌≡◌, ◌<◌, ◌==◌, IfSome, length, position};
-ghost use Rattle.cg_blkread.specs.Bits.{bit_number, bits_in, in_order, number_or_range, parts_at, range_in, up_to_31};
+ghost use Rattle.cg_blkread.specs.Bits.{bit_number, bits_in, in_order, parts_at, range_in, up_to_31};
 
 use crate::raw::Bits;
 use cg_hjson::Tree;

@@ -1,6 +1,6 @@
 //! The descriptions of a block's interfaces.
 
-ghost use Rattle.std.specs.Prelude.{◌≡◌, IfOk, filter, map, option_map};
+ghost use Rattle.std.specs.Prelude.{◌≡◌, IfOk, map, option_map};
 ghost use Rattle.std.specs.Option.{option_map_or};
 ghost use Rattle.cg_blkread.specs.Described.{entries_in, entry_list_of, face_desc, written_entry};
 ghost use Rattle.cg_blkread.specs.Interfaces.{devices, hosts, interface_name, interfaces};

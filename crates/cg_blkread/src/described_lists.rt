@@ -4,7 +4,6 @@ ghost use Rattle.std.specs.Prelude.{◌≡◌, ◌++◌, [], IfOk, OnOk, codes, 
 ghost use Rattle.std.specs.Option.{option_map_or};
 ghost use Rattle.std.specs.Str.{bytes_eq};
 ghost use Rattle.cg_keys.specs.Lookups.{number_at, text_at};
-ghost use Rattle.cg_keys.specs.Values.{members_of};
 ghost use Rattle.cg_blkread.specs.Described.{alert_desc, clock_desc, interrupt_desc, pin_desc, pins_of};
 
 use crate::parameters::word_at;

@@ -1,6 +1,6 @@
 //! The first rule that the shape and the lists of `registers` break.
 
-ghost use Rattle.std.specs.Prelude.{◌≡◌, ◌&&◌, ◌||◌, [], ◌∷◌, List, IfOk, cond, false, is_some, length, map, not, ℕ};
+ghost use Rattle.std.specs.Prelude.{◌≡◌, ◌&&◌, ◌||◌, [], ◌∷◌, List, IfOk, cond, false, is_some, map, not, ℕ};
 ghost use Rattle.std.specs.HashSet.{contains_by};
 ghost use Rattle.std.specs.List.{flat_map, list_any};
 ghost use Rattle.std.specs.Option.{option_map_or};

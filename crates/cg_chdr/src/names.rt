@@ -1,6 +1,6 @@
 //! The names that a header defines.
 
-ghost use Rattle.std.specs.Prelude.{◌≡◌, ◌++◌, IfOk, option_map};
+ghost use Rattle.std.specs.Prelude.{◌≡◌, ◌++◌, IfOk};
 ghost use Rattle.cg_hdrspec.specs.BlockHeader.{prefix_of, row_name, field_name, guard_of, upper};
 
 use cg_base::{Memory, Text};

@@ -1,6 +1,6 @@
 //! The reader of headers.
 
-ghost use Rattle.std.specs.Prelude.{◌≡◌, ◌≤◌, ◌^◌, ◌==◌, ◌++◌, Bool, true, false, length, map, IfOk, MatchOption};
+ghost use Rattle.std.specs.Prelude.{◌≡◌, ◌≤◌, ◌^◌, ◌==◌, ◌++◌, true, false, length, map, IfOk, MatchOption};
 ghost use Rattle.cg_hdrspec.specs.HeaderFault.{Answer, IsAnswer};
 ghost use Rattle.cg_hdrspec.specs.Reading.{is_nil, given, joined, at_end, answer};
 ghost use Rattle.cg_chdr.specs.Answers.{IsRight, Tells, constant_of};

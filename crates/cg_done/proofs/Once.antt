@@ -4,7 +4,7 @@ use Rattle.std.proofs.lemmas.Slice.Eq.{bytes_eq-Decides}
 use Rattle.std.specs.List.{AllByRecursion, IsDistinct}
 use Rattle.cg_docspec.specs.Tree as document
 use Rattle.cg_hjson.specs.Json.{Everywhere, HasKeysOnce, InMembers, KeysDiffer, WithinKind, keys}
-use Rattle.cg_hjson.specs.Views.{kind_level, kind_of, member_level, member_of, tree_level, tree_of, trees_of}
+use Rattle.cg_hjson.specs.Views.{kind_level, kind_of, member_level, member_of, tree_level, tree_of}
 use Rattle.cg_hjson.specs.Views as views
 use Rattle.cg_hjson.specs.declared.tree.Kind.{Kind, map-Kind, out-Kind}
 use Rattle.cg_hjson.specs.declared.tree.Kind.TheFolds as folds

@@ -1,5 +1,5 @@
 -- A block's description with everything said: what is known has its plain form, and what has a default is there. Unknown keys stay.
-use Rattle.std.specs.Prelude.{ℕ, ◌+◌, ◌++◌, Bool, List, [], ◌∷◌, map, codes, Option, Some, None, option_map, unwrap_or}
+use Rattle.std.specs.Prelude.{ℕ, ◌+◌, ◌++◌, List, [], ◌∷◌, map, codes, Option, Some, None, option_map, unwrap_or}
 use Rattle.std.specs.Fmt.{decimal}
 use Rattle.std.specs.Option.{option_map_or}
 use Rattle.serde_json.specs.Data.{Data, unsigned, boolean, number, string, array, object, put}
@@ -14,7 +14,6 @@ use Rattle.cg_hjson.specs.Views.{tree_of}
 use Rattle.cg_hjson.specs.declared.tree.Tree.{Tree}
 use Rattle.cg_hjson.specs.declared.tree.Member.{Member}
 use Rattle.cg_keys.specs.Elements.{elements}
-use Rattle.cg_keys.specs.Forms.{number_within}
 use Rattle.cg_keys.specs.Lookups.{number_at, text_at, window_access_at}
 use Rattle.cg_keys.specs.Table.{value_at}
 use Rattle.cg_keys.specs.Values.{items_of, members_of, object_in}

@@ -1,8 +1,8 @@
 //! The registers that come of themselves: three for the interrupts, and one for the alerts.
 
-ghost use Rattle.std.specs.Prelude.{◌≡◌, ◌+◌, ◌-◌, ◌<◌, ◌≤◌, ◌++◌, [], ◌∷◌, true, cond, ◌&&◌, length, sum_by, codes, IfOk, OnOk};
+ghost use Rattle.std.specs.Prelude.{◌≡◌, ◌+◌, ◌-◌, ◌<◌, ◌≤◌, ◌++◌, true, ◌&&◌, length, sum_by, IfOk, OnOk};
 ghost use Rattle.cg_svspec.specs.Printable.{AllOf};
-ghost use Rattle.cg_desc.specs.Items.{alert_fields, automatic_field, automatic_register, has_some, interrupt_fields};
+ghost use Rattle.cg_desc.specs.Items.{alert_fields, automatic_register, has_some, interrupt_fields};
 ghost use Rattle.cg_desc.specs.Valid.{IsValidInterrupt};
 ghost use Rattle.cg_desc.specs.declared.block.Item.TheVariants.{Reg as OfRegister};
 ghost use Rattle.cg_expand.specs.Parts.Automatic.{alert_registers, automatic_with, hardware_of, interrupt_register, interrupt_registers, is_external, software_of};

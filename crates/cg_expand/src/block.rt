@@ -1,8 +1,8 @@
 //! A block, expanded.
 
-ghost use Rattle.std.specs.Prelude.{◌≡◌, ◌++◌, IfOk};
+ghost use Rattle.std.specs.Prelude.{◌≡◌, IfOk};
 ghost use Rattle.cg_svspec.specs.Printable.{AllOf};
-ghost use Rattle.cg_desc.specs.Items.{items_of_block, items_of_faces};
+ghost use Rattle.cg_desc.specs.Items.{items_of_faces};
 ghost use Rattle.cg_desc.specs.Valid.{IsValidBlock};
 ghost use Rattle.cg_expand.specs.Expands.{Expands, HasValidItems};
 ghost use Rattle.cg_expand.specs.Parts.Automatic.{automatic_with, has_room};

@@ -1,6 +1,6 @@
 //! How many rows and fields a block has, counted without making them.
 
-ghost use Rattle.std.specs.Prelude.{◌≡◌, ◌+◌, ◌*◌, ◌<◌, nat_lt, ◌||◌, cond, min, length, sum_by};
+ghost use Rattle.std.specs.Prelude.{◌≡◌, ◌+◌, ◌*◌, ◌<◌, nat_lt, ◌||◌, cond, min, sum_by};
 ghost use Rattle.cg_svspec.specs.Printable.{AllOf};
 ghost use Rattle.cg_desc.specs.Items.{automatic_items, items_of_block};
 ghost use Rattle.cg_desc.specs.Valid.{IsValidEntry, IsValidInterface};

@@ -1,12 +1,11 @@
 -- A completed description in place of its source gives the same outputs.
-use Rattle.std.proofs.Common.{◌≡◌, ℕ, ◌≤◌, List, [], ◌∷◌, ◌++◌, map, length, codes, Option, Some, None, refl, sym, ap, ◌∙◌, subst, chars}
+use Rattle.std.proofs.Common.{◌≡◌, ℕ, ◌≤◌, List, [], ◌∷◌, ◌++◌, map, length, codes, Some, None, refl, sym, ap, ◌∙◌, subst, chars}
 use Rattle.cg_docspec.specs.Depth.{Opener}
 use Rattle.cg_docspec.specs.Document.{Document}
 use Rattle.cg_docspec.specs.Tree as document
 use Rattle.cg_svspec.specs.Layout.{module_text}
 use Rattle.cg_svspec.specs.Names.{first_repeat}
 use Rattle.cg_svspec.specs.Tree.{Module}
-use Rattle.cg_desc.specs.declared.fault.Fault.{Fault}
 use Rattle.cg_desc.specs.declared.block.LaidBlock.{LaidBlock}
 use Rattle.cg_desc.specs.declared.block.LaidFace.{LaidFace}
 use Rattle.cg_hjson.specs.Views.{tree_of}
@@ -22,7 +21,7 @@ use Rattle.cg_samespec.specs.Laws.{IsLaidSoundly, ReadFieldsAreApart, SameIsLaid
 use Rattle.cg_samespec.specs.Same.{WriteSame}
 use Rattle.cg_words.specs.declared.command.RegOut.{RegOut}
 use Rattle.cg_words.specs.declared.command.RegOut.TheVariants.{Registers, Header, Completed}
-use Rattle.cg_gen.specs.Build.{Output, by_name, clash_of, completed_name, first_clash, header_name, header_output, completed_output, module_of_face, modules_of, or_else, outputs_of, register_output, IsFirstFault, IsBuilt, built}
+use Rattle.cg_gen.specs.Build.{Output, by_name, clash_of, first_clash, module_of_face, or_else, outputs_of, register_output, IsBuilt, built}
 use Rattle.cg_gen.specs.Meaning.{BuildsSame}
 use Rattle.cg_gen.specs.Stages.{limit, description, HasTree, IsLaidOutAs}
 use Rattle.cg_gen.proofs.Once.{not_both, same_tree}

@@ -1,5 +1,5 @@
 -- What is due, from what the pieces say.
-use Rattle.std.proofs.Common.{◌≡◌, ℕ, suc, ◌<◌, ◌≤◌, List, [], ◌∷◌, ◌++◌, length, Option, Some, None, refl, sym, ap, ◌∙◌, subst, arith, replicate}
+use Rattle.std.proofs.Common.{◌≡◌, ℕ, suc, ◌<◌, List, [], ◌∷◌, ◌++◌, length, Option, Some, None, refl, sym, ap, ◌∙◌, subst, arith, replicate}
 use Rattle.std.specs.FinMap as map
 use Rattle.std.proofs.lemmas.List.{length-replicate}
 use Rattle.cg_base.specs.Outside.{Files, ReadAnswers}
@@ -13,7 +13,7 @@ use Rattle.cg_words.specs.declared.command.RegOut.{RegOut}
 use Rattle.cg_gen.specs.declared.due.Change.{Change}
 use Rattle.cg_gen.specs.declared.due.Due.{Due}
 use Rattle.cg_gen.specs.declared.words.Asked.{Asked}
-use Rattle.cg_gen.specs.Build.{Output, clash_of, outputs_of, start, IsFirstFault, absent, large, clash, IsBuilt, built}
+use Rattle.cg_gen.specs.Build.{Output, clash_of, outputs_of, start, IsFirstFault, absent, large, built}
 use Rattle.cg_gen.specs.Due.{IsAsked, IsDueFor, refuses, builds, Gave, IsDue, no_command, command, changes_of, built_line, due_of_fault, due_of_outputs, due_of_no_command}
 use Rattle.cg_gen.specs.Stages.{limit, IsLaidOutAs}
 

@@ -1,13 +1,12 @@
 -- How a run ends where its parts end so.
-use Rattle.std.proofs.Common.{◌≡◌, ◌⊎◌, ℕ, ◌<◌, List, [], ◌∷◌, Option, Some, None, refl, sym, ap, ◌∙◌, subst, inl, inr, arith, eqb, cond, true, false}
-use Rattle.cg_base.specs.Outside.{Files, Rose, OnlyAt, written, put, TookPrefix}
-use Rattle.cg_gen.specs.declared.due.Change.{Change}
+use Rattle.std.proofs.Common.{◌≡◌, ◌⊎◌, ℕ, List, Option, Some, refl, sym, ◌∙◌, subst, inl, inr, eqb, cond, true, false}
+use Rattle.cg_base.specs.Outside.{Files, Rose}
 use Rattle.cg_gen.specs.declared.due.Due.{Due}
 use Rattle.cg_gen.specs.declared.ending.Ending.{Ending}
 use Rattle.cg_gen.specs.declared.ending.Ending.TheVariants.{Built, Refused, NoCommand, ReadFailed, WriteFailed, Memory}
 use Rattle.cg_gen.specs.Due.{IsDue}
 use Rattle.cg_gen.proofs.Once.{status_once}
-use Rattle.cg_gen.specs.Run.{World, world, Done, Performs, Silent, ReadFails, ChangeFailsOf, LineFailsOf, ChangeUnfoundOf, LineUnfoundOf, WriteFails, PerformUnfound, MemoryUnfound, Unchanged, LineBegun, LineWhole, Ends, PerformEnds, Calm, Completes, code_of}
+use Rattle.cg_gen.specs.Run.{World, world, Done, Silent, ChangeFailsOf, LineFailsOf, ChangeUnfoundOf, LineUnfoundOf, LineBegun, Ends, PerformEnds, Calm, Completes, code_of}
 
 -- before and after a read, all but the count of reads is the same
 module _ (words : List (List ℕ)) (due : Due) (files : Option Files) (reads reads' changes : ℕ) (out : Option (List ℕ)) (out_faults : ℕ) (err : Option (List ℕ)) (err_faults : ℕ) (after : World) where

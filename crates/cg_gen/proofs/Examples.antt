@@ -1,5 +1,5 @@
 -- The block's step at work: a block with one register DATA of 32 bits, from offset 0 on.
-use Rattle.std.proofs.Common.{◌≡◌, ℕ, Bool, true, false, List, [], ◌∷◌, Option, None, refl, codes}
+use Rattle.std.proofs.Common.{◌≡◌, ℕ, true, false, List, [], ◌∷◌, None, refl, codes}
 use Rattle.cg_svspec.specs.Bits.{Bits, bits}
 use Rattle.cg_desc.specs.AccessTable.{next_value}
 use Rattle.cg_desc.specs.Target.{target_at, register, error}

@@ -1,5 +1,5 @@
 -- A refusal that names a fault is the first fault of a file, where the fault is.
-use Rattle.std.proofs.Common.{◌≡◌, ℕ, List, Option, Some, Result, Ok, Err, sym, subst}
+use Rattle.std.proofs.Common.{◌≡◌, ℕ, List, Some, Result, Ok, Err, sym, subst}
 use Rattle.cg_desc.specs.declared.fault.DescFault.{DescFault}
 use Rattle.cg_desc.specs.declared.fault.DescFault.TheVariants.{Fault, Memory}
 use Rattle.cg_finding.specs.Finding.{Finding, in_file}

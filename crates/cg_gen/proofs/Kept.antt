@@ -1,13 +1,13 @@
 -- What the store holds after changes, of which those of one name are of the same bytes.
-use Rattle.std.proofs.Common.{◌≡◌, ◌≢◌, ◌⊎◌, ℕ, Bool, true, false, List, [], ◌∷◌, ◌++◌, Option, Some, None, refl, sym, ap, ◌∙◌, subst, inl, inr, cond}
+use Rattle.std.proofs.Common.{◌≡◌, ◌≢◌, ◌⊎◌, ℕ, Bool, true, false, List, [], ◌∷◌, Some, refl, sym, ap, ◌∙◌, inl, inr, cond}
 use Rattle.std.proofs.lemmas.Bool.{false≢true}
 use Rattle.std.specs.FinMap as map
-use Rattle.std.specs.Ordering.{is_gt, nat_cmp, eq_by_cmp}
+use Rattle.std.specs.Ordering.{is_gt, nat_cmp}
 use Rattle.std.specs.Cmp.Lexicographic.{slice_cmp, nat_list_cmp_total}
 use Rattle.std.specs.Str.{bytes_eq}
 use Rattle.std.proofs.lemmas.Cmp.{eq_by_cmp_equiv}
 use Rattle.std.proofs.lemmas.Slice.Eq.{bytes_eq-Decides}
-use Rattle.cg_base.specs.Outside.{Files, written, written_OnlyAt}
+use Rattle.cg_base.specs.Outside.{Files, written_OnlyAt}
 use Rattle.cg_finding.specs.Finding.{Among}
 use Rattle.cg_gen.specs.declared.due.Change.{Change}
 use Rattle.cg_gen.specs.Run.{changed}

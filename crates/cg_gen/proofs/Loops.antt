@@ -1,5 +1,5 @@
 -- One module more, of a block's interfaces.
-use Rattle.std.proofs.Common.{◌≡◌, ℕ, suc, ◌+◌, ◌<◌, ◌≤◌, List, [], ◌∷◌, ◌++◌, map, length, drop, drop-cons, add-one, get_or, Option, Some, None, Result, Err, refl, sym, ap, ◌∙◌, subst, append_assoc, zero, arith}
+use Rattle.std.proofs.Common.{◌≡◌, ℕ, suc, ◌+◌, ◌<◌, ◌≤◌, List, [], ◌∷◌, ◌++◌, map, length, drop, drop-cons, add-one, get_or, Option, Some, None, Result, Err, sym, ap, ◌∙◌, subst, append_assoc, zero, arith}
 use Rattle.std.proofs.lemmas.List.{drop_all, map-append}
 use Rattle.cg_svspec.specs.Names.{first_repeat, module_names}
 use Rattle.cg_svspec.specs.Printable.{AllOf}
@@ -12,7 +12,7 @@ use Rattle.cg_sv.specs.declared.tree.Module.{Module as Made}
 use Rattle.cg_svreg.specs.Interface.{interface, interface_module}
 use Rattle.cg_gen.specs.declared.due.Change.{Change}
 use Rattle.cg_gen.specs.Texts.{put_change, put_changes, text_change}
-use Rattle.cg_gen.specs.Build.{or_else, first_clash, module_of_face, modules_of}
+use Rattle.cg_gen.specs.Build.{or_else, first_clash, module_of_face}
 
 -- the modules of the interfaces from number i on
 abbrev from : LaidBlock → ℕ → List Module

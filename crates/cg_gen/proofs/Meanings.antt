@@ -1,5 +1,5 @@
 -- What is written means the block, by the laws of printed texts and of register modules.
-use Rattle.std.proofs.Common.{◌≡◌, ◌≤◌, ◌≢◌, ◌⊎◌, ℕ, ◌+◌, List, [], ◌∷◌, ◌++◌, map, length, codes, Option, Some, None, refl, sym, ap, ◌∙◌, subst, inl, inr, arith, length-append}
+use Rattle.std.proofs.Common.{◌≡◌, ◌≤◌, ℕ, ◌+◌, List, [], ◌∷◌, ◌++◌, map, length, codes, Option, Some, None, refl, sym, ap, ◌∙◌, subst, inl, inr, arith, length-append}
 use Rattle.std.specs.FinMap as fin
 use Rattle.std.proofs.lemmas.List.{append_cancel_left, append_cancel_right}
 use Rattle.cg_base.specs.Outside.{Files}
@@ -7,9 +7,8 @@ use Rattle.cg_svspec.specs.Layout.{module_text}
 use Rattle.cg_svspec.specs.Names.{first_repeat}
 use Rattle.cg_svspec.specs.Printable.{AllOf}
 use Rattle.cg_svspec.specs.Stands.{PrintedTextStands}
-use Rattle.cg_desc.specs.Laid.{IsLaid}
 use Rattle.cg_desc.specs.Items.{items_of_block}
-use Rattle.cg_desc.specs.Valid.{IsValidBlock, InterfacesDiffer}
+use Rattle.cg_desc.specs.Valid.{InterfacesDiffer}
 use Rattle.cg_desc.specs.declared.block.BlockDesc.{BlockDesc}
 use Rattle.cg_desc.specs.declared.block.FaceDesc.{FaceDesc}
 use Rattle.cg_desc.specs.declared.block.FaceItems.{FaceItems}
@@ -17,7 +16,7 @@ use Rattle.cg_desc.specs.declared.block.LaidBlock.{LaidBlock}
 use Rattle.cg_desc.specs.declared.block.LaidFace.{LaidFace}
 use Rattle.cg_finding.specs.Finding.{Among}
 use Rattle.cg_hjson.specs.declared.tree.Tree.{Tree}
-use Rattle.cg_layout.specs.Lays.{AreLaidOut, IsLaidBlock}
+use Rattle.cg_layout.specs.Lays.{AreLaidOut}
 use Rattle.cg_layout.proofs.Whole.{laid_faces}
 use Rattle.cg_regspec.specs.Laws.{RegisterModuleMeans}
 use Rattle.cg_regspec.specs.RegisterModule.{register_module_name}
@@ -35,11 +34,11 @@ use Rattle.cg_gen.specs.declared.words.Asked.{Asked}
 use Rattle.cg_gen.specs.declared.ending.Ending.{Ending}
 use Rattle.cg_gen.specs.declared.ending.Ending.TheVariants.{Built, Refused, NoCommand, ReadFailed, WriteFailed, Memory}
 use Rattle.cg_gen.specs.Build.{Output, first_clash, clash_of, modules_of, module_of_face, output_name, register_output, register_outputs, header_output, completed_output, outputs_of, IsBuilt, built}
-use Rattle.cg_gen.specs.Due.{IsAsked, refuses, builds, IsDue, no_command, command, changes_of, stored_name, due_of_outputs}
-use Rattle.cg_gen.specs.Meaning.{BuildsSame, HoldsModule, HoldsHeader, HoldsCompleted, Holds, WritesBlock, WritesMeaning}
+use Rattle.cg_gen.specs.Due.{IsAsked, refuses, builds, IsDue, no_command, command, changes_of, stored_name}
+use Rattle.cg_gen.specs.Meaning.{BuildsSame, HoldsModule, Holds, WritesBlock, WritesMeaning}
 use Rattle.cg_gen.specs.Run.{World, Performs, Ends, code_of, changed}
 use Rattle.cg_gen.specs.Stages.{limit, description, IsLaidOutAs}
-use Rattle.cg_gen.specs.Texts.{put_changes, text_change}
+use Rattle.cg_gen.specs.Texts.{put_changes}
 use Rattle.cg_gen.proofs.Again as again
 use Rattle.cg_gen.proofs.Again.{builds_same}
 use Rattle.cg_gen.proofs.Kept.{after, changed_is, Agree, untouched, kept, puts_in, puts_out}

@@ -1,5 +1,5 @@
 -- The modules of a block that is laid out, of which no name repeats, act as its interfaces.
-use Rattle.std.proofs.Common.{◌≡◌, ℕ, suc, ◌<◌, ◌≤◌, arith, List, [], ◌∷◌, map, length, Option, Some, None, refl, sym, ap, ◌∙◌, subst}
+use Rattle.std.proofs.Common.{◌≡◌, ℕ, suc, ◌<◌, arith, List, [], ◌∷◌, map, length, Option, Some, None, refl, sym, ap, subst}
 use Rattle.cg_svspec.specs.Characters.{IsName, IsWord}
 use Rattle.cg_svspec.specs.Names.{first_repeat, module_names}
 use Rattle.cg_svspec.specs.Printable.{AllOf, IsPrintable}
@@ -16,7 +16,7 @@ use Rattle.cg_layout.specs.Lays.{AreLaidOut, IsLaidBlock}
 use Rattle.cg_hdrspec.specs.Laws.{IsNamed}
 use Rattle.cg_regspec.specs.Laws.{RegisterModuleMeans}
 use Rattle.cg_regspec.specs.Meaning.{RegisterMeans}
-use Rattle.cg_regspec.specs.RegisterModule.{register_module, register_module_name}
+use Rattle.cg_regspec.specs.RegisterModule.{register_module_name}
 use Rattle.cg_regspec.proofs.WellNames.{block_module_name, interface_module_name}
 use Rattle.cg_gen.specs.Build.{or_else, first_clash, module_of_face, modules_of}
 

@@ -1,12 +1,11 @@
 -- What is due has one status, where the files are told.
-use Rattle.std.proofs.Common.{◌≡◌, ◌⊎◌, ℕ, ◌<◌, ◌≤◌, List, [], ◌∷◌, length, take, Option, Some, None, refl, sym, ap, ◌∙◌, subst, inl, inr, arith}
+use Rattle.std.proofs.Common.{◌≡◌, ℕ, List, [], length, Option, Some, None, refl, sym, ap, ◌∙◌, subst, arith}
 use Rattle.std.specs.FinMap as map
 use Rattle.std.specs.Str.{chars, IsUtf8, IsValidUpTo}
 use Rattle.std.proofs.lemmas.List.{take_all}
 use Rattle.cg_base.specs.Outside.{Files}
 use Rattle.cg_docspec.specs.Place.{Place}
-use Rattle.cg_docspec.specs.Document.{Document}
-use Rattle.cg_docspec.specs.SyntaxFault.{Answer, NoDocument, TooDeep, too_deep, read}
+use Rattle.cg_docspec.specs.SyntaxFault.{NoDocument, TooDeep, too_deep, read}
 use Rattle.cg_docspec.proofs.Answering.Answers.{one_answer, one_tree}
 use Rattle.cg_blkread.specs.Reads.{Violates as BreaksKeysOrValues}
 use Rattle.cg_expand.specs.Violations.{Violates as BreaksNamesOrCounts}
@@ -27,7 +26,7 @@ use Rattle.cg_gen.specs.declared.due.Due.{Due}
 use Rattle.cg_gen.specs.declared.words.Asked.{Asked}
 use Rattle.cg_gen.specs.Build.{Output, clash_of, IsFirstFault, absent, large, not_utf8, no_document, too_deep as deep, keys_or_values, names_or_counts, offsets_or_gates, clash, IsBuilt, built}
 use Rattle.cg_gen.specs.Due.{IsAsked, IsDueFor, refuses, builds, Gave, IsDue, no_command, command}
-use Rattle.cg_gen.specs.Stages.{limit, description, HasTree, IsBlock, HasItems, IsLaidOutAs}
+use Rattle.cg_gen.specs.Stages.{description, HasTree, IsLaidOutAs}
 
 -- bytes of which not all are UTF-8 are none
 not_text : (bytes : List ℕ) (n : ℕ) → IsValidUpTo bytes n → IsUtf8 bytes → ⊥

@@ -1,9 +1,9 @@
 -- Every tree of the grammar is one that a value of the program stands for.
-use Rattle.std.proofs.Common.{◌≡◌, ℕ, List, [], ◌∷◌, refl, ap, ◌∙◌}
+use Rattle.std.proofs.Common.{◌≡◌, List, [], ◌∷◌, refl, ap, ◌∙◌}
 use Rattle.cg_docspec.specs.Place.{Place}
 use Rattle.cg_docspec.specs.Tree as document
 use Rattle.cg_desc.specs.declared.place.At.{At}
-use Rattle.cg_hjson.specs.Views.{kind_of, member_of, tree_of, trees_of, members_of}
+use Rattle.cg_hjson.specs.Views.{kind_of, tree_of, trees_of, members_of}
 use Rattle.cg_hjson.specs.declared.tree.Kind.{Kind}
 use Rattle.cg_hjson.specs.declared.tree.Kind.TheVariants as form
 use Rattle.cg_hjson.specs.declared.tree.Member.{Member, roll-Member}

@@ -1,5 +1,5 @@
 -- What a run leaves, by its status.
-use Rattle.std.specs.Prelude.{◌≡◌, ◌⊎◌, ℕ, ◌<◌, List, [], ◌∷◌, Option, Some, None, Result, Ok, Err, eqb, cond}
+use Rattle.std.specs.Prelude.{◌≡◌, ◌⊎◌, ℕ, List, [], ◌∷◌, Option, Some, Result, Ok, Err, eqb, cond}
 use Rattle.cg_base.specs.Outside.{Files, Rose, OnlyAt, written, put, TookPrefix}
 use Rattle.cg_base.specs.declared.outside.SinkFault.{SinkFault}
 use Rattle.cg_base.specs.declared.outside.SinkFault.TheVariants as sink

@@ -1,5 +1,5 @@
 -- The stages of a block's description, from the bytes of its file on; each stands where no rule of it is broken.
-use Rattle.std.specs.Prelude.{◌≡◌, ℕ, ◌≤◌, List, length, IsUtf8, chars}
+use Rattle.std.specs.Prelude.{ℕ, ◌≤◌, List, length, IsUtf8, chars}
 use Rattle.cg_docspec.specs.Place.{Place}
 use Rattle.cg_docspec.specs.Depth.{Opener}
 use Rattle.cg_docspec.specs.Document.{Document}

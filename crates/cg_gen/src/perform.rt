@@ -1,5 +1,5 @@
-ghost use Rattle.std.specs.Prelude.{◌≡◌, ◌≤◌, ◌<◌, OnOk, OnErr, IsErrOf};
-ghost use Rattle.cg_base.specs.Outside.{HasCause, Files};
+ghost use Rattle.std.specs.Prelude.{◌≡◌, ◌<◌, OnOk, OnErr, IsErrOf};
+ghost use Rattle.cg_base.specs.Outside.{HasCause};
 ghost use Rattle.cg_gen.specs.Run.{World, world, changed, StoppedIn, IsWhole, EndsLine, Puts, PerformEnds};
 
 use crate::due::{Change, Due};

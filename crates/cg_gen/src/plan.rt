@@ -1,9 +1,8 @@
 //! What is due: by the words, by the file that they name, and by its first fault or its outputs.
 
-ghost use Rattle.std.specs.Prelude.{◌≡◌, ◌<◌, map, string_bytes, Some, None, IfOk, OnErr, IsErrOf, Option, List, ℕ};
+ghost use Rattle.std.specs.Prelude.{◌≡◌, ◌<◌, map, string_bytes, Some, None, IfOk, Option, List, ℕ};
 ghost use Rattle.cg_base.specs.Outside.{Rose};
 ghost use Rattle.cg_gen.specs.Due.{IsDue, IsDueFor, Gave, due_of_no_command, usage};
-ghost use Rattle.cg_gen.specs.declared.words.Asked.{Asked};
 
 use crate::build::given_due;
 use crate::due::Due;

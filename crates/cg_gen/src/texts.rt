@@ -1,9 +1,8 @@
 //! The register texts of a block, each under the name of its module.
 
-ghost use Rattle.std.specs.Prelude.{◌≡◌, ◌<◌, ◌≤◌, ◌++◌, [], map, length, codes, Some, None, Err, IfOk, OnOk, ℕ, List};
+ghost use Rattle.std.specs.Prelude.{◌≡◌, ◌<◌, ◌++◌, [], map, length, codes, Some, None, Err, IfOk, OnOk, ℕ, List};
 ghost use Rattle.std.specs.Ordering.{is_gt, nat_cmp};
 ghost use Rattle.std.specs.Cmp.Lexicographic.{slice_cmp};
-ghost use Rattle.cg_svspec.specs.Names.{first_repeat, module_names};
 ghost use Rattle.cg_svspec.specs.Printable.{AllOf, IsPrintable};
 ghost use Rattle.cg_desc.specs.Laid.{IsLaid};
 ghost use Rattle.cg_sv.specs.Views.{module_of};

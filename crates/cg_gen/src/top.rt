@@ -1,4 +1,4 @@
-ghost use Rattle.std.specs.Prelude.{◌≡◌, ◌<◌, ◌⊎◌, map, string_bytes};
+ghost use Rattle.std.specs.Prelude.{◌≡◌, ◌<◌, map, string_bytes};
 ghost use Rattle.cg_gen.specs.Run.{World, world, Performs, ReadFails, WriteFails, MemoryUnfound, Completes, Ends, code_of};
 ghost use Rattle.cg_gen.specs.Meaning.{WritesMeaning};
 

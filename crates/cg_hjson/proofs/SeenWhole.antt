@@ -3,7 +3,7 @@ use Rattle.std.proofs.Common.{◌≡◌, ℕ, List, [], ◌∷◌, map, refl, sy
 use Rattle.cg_docspec.specs.Place.{Place}
 use Rattle.cg_docspec.specs.Tree as document
 use Rattle.cg_desc.specs.declared.place.At.{At}
-use Rattle.cg_hjson.specs.Views.{place_of, kind_of, member_of, tree_of, trees_of, members_of}
+use Rattle.cg_hjson.specs.Views.{kind_of, member_of, tree_of, trees_of, members_of}
 use Rattle.cg_hjson.specs.declared.tree.Kind.{Kind, map-Kind, roll-Kind}
 use Rattle.cg_hjson.specs.declared.tree.Kind.TheFolds.{ind-Tree}
 use Rattle.cg_hjson.specs.declared.tree.Kind.TheOpen as level

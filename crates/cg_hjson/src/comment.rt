@@ -1,6 +1,5 @@
 //! Comments.
 
-ghost use Rattle.std.specs.Prelude.{◌≡◌};
 ghost use Rattle.cg_docspec.specs.Machine.Comment.{begun_step, in_block, in_block_return, in_comment, in_slash};
 ghost use Rattle.cg_hjson.specs.Views.{place_of};
 ghost use Rattle.cg_hjson.specs.Reading.{Gives, awaited_of, found_of, frames_of, state_of};

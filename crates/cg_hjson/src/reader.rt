@@ -1,11 +1,11 @@
-ghost use Rattle.std.specs.Prelude.{◌≡◌, ◌+◌, ◌≤◌, ◌<◌, ◌^◌, IfOk, length};
+ghost use Rattle.std.specs.Prelude.{◌≡◌, ◌≤◌, ◌<◌, ◌^◌, IfOk, length};
 ghost use Rattle.std.specs.Str.{chars};
 ghost use Rattle.cg_docspec.specs.Place.{next_place};
 ghost use Rattle.cg_docspec.specs.SyntaxFault.{Answer, IsAnswer};
 ghost use Rattle.cg_docspec.specs.Machine.Run.{answer, whole};
 ghost use Rattle.cg_docspec.specs.Machine.State.{start};
 ghost use Rattle.cg_hjson.specs.Json.{IntegersFit};
-ghost use Rattle.cg_hjson.specs.Views.{place_of, tree_of};
+ghost use Rattle.cg_hjson.specs.Views.{tree_of};
 ghost use Rattle.cg_hjson.specs.Reading.{found_of, state_of};
 ghost use Rattle.cg_hjson.specs.Answers.{IsRight, Tells};
 

@@ -1,6 +1,6 @@
 //! Gaps, and the first characters of what stands behind them.
 
-ghost use Rattle.std.specs.Prelude.{◌≡◌, ◌∷◌, Some, false, string_bytes};
+ghost use Rattle.std.specs.Prelude.{◌∷◌, Some, false, string_bytes};
 ghost use Rattle.cg_docspec.specs.Machine.Awaited as awaited;
 ghost use Rattle.cg_docspec.specs.Machine.Now as now;
 ghost use Rattle.cg_docspec.specs.Machine.State.{reading};

@@ -1,6 +1,6 @@
 //! What a block breaks of the rules on offsets and gates, and which of it comes first.
 
-ghost use Rattle.std.specs.Prelude.{◌≡◌, ◌≤◌, length, zip};
+ghost use Rattle.std.specs.Prelude.{◌≡◌, length, zip};
 ghost use Rattle.cg_desc.specs.Valid.{IsValidItem};
 ghost use Rattle.cg_finding.specs.Finding.{finding};
 ghost use Rattle.cg_finding.specs.Found.{sees};

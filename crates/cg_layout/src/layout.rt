@@ -82,7 +82,7 @@ fn laid_faces(
 /// first fault of phase 5 in the block's file: rule 33 is an interface without a register and a window, 35 a `regwen`
 /// that names no register of the interface, 36 one whose register is no gate, 39 a skip that leads to no word or back,
 /// and 41 an item that ends past 2^24 bytes. Of 39 and 41 only the first in an interface counts. The other refusal is
-/// want of memory, for the rows and the interfaces' names.
+/// want of memory.
 pub fn lay(alloc: Global, block: BlockDesc, faces: List<FaceItems>) -> Result<LaidBlock, DescFault>
     requires expanded { faces ≡ items_of_block block }
     requires items { AllOf (λ face. AllOf IsValidItem face.items) faces }

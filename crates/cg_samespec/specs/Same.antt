@@ -1,5 +1,5 @@
 -- Blocks that are the same but for places: what is written of them.
-use Rattle.std.specs.Prelude.{◌≡◌, ℕ, false, List, [], ◌∷◌, map}
+use Rattle.std.specs.Prelude.{◌≡◌, false, List, [], ◌∷◌, map}
 use Rattle.std.specs.Str.{str_eq_ignore_ascii_case}
 use Rattle.cg_svspec.specs.Printable.{AllOf}
 use Rattle.cg_svspec.specs.Tree.{Module}
@@ -8,7 +8,6 @@ use Rattle.cg_desc.specs.declared.block.FieldDesc.{FieldDesc}
 use Rattle.cg_desc.specs.declared.block.Item.{Item}
 use Rattle.cg_desc.specs.declared.block.Item.TheVariants.{Reg, Window, SkipTo, Reserved}
 use Rattle.cg_desc.specs.declared.block.BlockDesc.{BlockDesc}
-use Rattle.cg_desc.specs.declared.block.LaidFace.{LaidFace}
 use Rattle.cg_desc.specs.declared.block.LaidBlock.{LaidBlock}
 use Rattle.cg_regspec.specs.RegisterModule.{register_module, register_module_name}
 use Rattle.cg_hdrspec.specs.BlockHeader.{header_names, header_text}

@@ -3,7 +3,7 @@
 ghost use Rattle.std.specs.Prelude.{◌≡◌, ◌++◌, [], OnOk, map};
 ghost use Rattle.cg_svspec.specs.Tree.{inst};
 ghost use Rattle.cg_svspec.specs.Layout.{parameter_text, parameters_text, parameters_after_text, connection_text, connections_text, entry_text, entries_text};
-ghost use Rattle.cg_sv.specs.Views.{parameter_of, connection_of, entry_of, expression_of};
+ghost use Rattle.cg_sv.specs.Views.{parameter_of, connection_of, entry_of};
 
 use crate::expression::{print_expression, print_value};
 use crate::layout::print_range;

@@ -1,5 +1,5 @@
 -- Lists of parts and of entries.
-use Rattle.std.proofs.Common.{◌≡◌, ℕ, List, [], ◌∷◌, ◌++◌, map, reverse, refl, ap, sym, ◌∙◌, append_assoc}
+use Rattle.std.proofs.Common.{◌≡◌, List, [], ◌∷◌, ◌++◌, map, reverse, refl, ap, append_assoc}
 use Rattle.std.proofs.lemmas.List.{reverse-append}
 use Rattle.cg_svspec.specs.Tree.{Expressions, none, more, expressions}
 use Rattle.cg_sv.specs.Views.{expression_of}

@@ -7,7 +7,6 @@ use Rattle.cg_desc.specs.declared.block.HwAccess.{HwAccess}
 use Rattle.cg_desc.specs.declared.block.HwAccess.TheVariants.{Hro, Hrw}
 use Rattle.cg_desc.specs.declared.block.FieldDesc.{FieldDesc}
 use Rattle.cg_desc.specs.declared.block.RegDesc.{RegDesc}
-use Rattle.cg_desc.specs.declared.block.WindowDesc.{WindowDesc}
 use Rattle.cg_desc.specs.declared.block.Item.TheVariants.{Reg, Window}
 use Rattle.cg_desc.specs.declared.block.LaidRow.{LaidRow}
 use Rattle.cg_desc.specs.declared.block.LaidFace.{LaidFace}

@@ -1,6 +1,6 @@
 //! The answer to an access, over all rows: an error, and the data of a read.
 
-ghost use Rattle.std.specs.Prelude.{◌≡◌, ℕ, ◌++◌, [], ◌∷◌, List, IfOk, OnOk, map};
+ghost use Rattle.std.specs.Prelude.{◌≡◌, ◌++◌, [], ◌∷◌, List, IfOk, OnOk, map};
 ghost use Rattle.std.specs.Fmt.{decimal};
 ghost use Rattle.cg_svspec.specs.Tree.{net, cat, none, and, or, any, pick, drive, assign};
 ghost use Rattle.cg_sv.specs.Views.{expression_of, entry_of};

@@ -1,6 +1,6 @@
 //! The fields: their next values after hardware and software, and what hardware sees of them.
 
-ghost use Rattle.std.specs.Prelude.{◌≡◌, ◌<◌, ◌≤◌, ◌++◌, [], ◌∷◌, IfOk, OnOk, map, cond};
+ghost use Rattle.std.specs.Prelude.{◌≡◌, ◌<◌, ◌≤◌, ◌++◌, IfOk, OnOk, map, cond};
 ghost use Rattle.cg_svspec.specs.Tree.{net, and, or, pick, assign};
 ghost use Rattle.cg_sv.specs.Views.{expression_of, entry_of};
 ghost use Rattle.cg_regspec.specs.NetNames.{we, re, state_net};

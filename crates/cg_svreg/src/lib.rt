@@ -6,8 +6,8 @@
 //! the first such name, exactly where one repeats.
 //!
 //! The module is the one of `cg_regspec`, port by port and entry by entry; each file here makes the lists of one group,
-//! and each function adds the list of one definition. That such a module is well formed, and acts as the interface's
-//! register block, is the law of `cg_regspec`. Not promised here: the module's text, which `cg_sv` prints, and that the
+//! and each function adds the list of one definition. By the law of `cg_regspec` such a module is well formed, and acts as
+//! the interface's register block. Not promised here: the module's text, which `cg_sv` prints, and that the
 //! module's own name differs from other modules'.
 #![tactic(auto)]
 

@@ -1,11 +1,14 @@
 //! A whole register module.
 
-ghost use Rattle.std.specs.Prelude.{◌≡◌, ◌<◌, ℕ, List, [], ◌++◌, length, map, Some, None, Err, IfOk, OnOk, IfSome};
+ghost use Rattle.std.specs.Prelude.{◌≡◌, ◌<◌, ℕ, List, ◌++◌, length, map, Some, None, Err, IfOk, OnOk};
+ghost use Rattle.cg_svspec.specs.Characters.{IsName, IsWord};
 ghost use Rattle.cg_svspec.specs.Names.{module_names, first_repeat};
 ghost use Rattle.cg_svspec.specs.Register.{access_ports};
 ghost use Rattle.cg_desc.specs.Laid.{IsLaid};
+ghost use Rattle.cg_desc.specs.Valid.{IsNameIfAny};
 ghost use Rattle.cg_sv.specs.Views.{module_of, port_of, entry_of};
 ghost use Rattle.cg_sv.specs.declared.fault.SvRegFault.TheVariants as SvRegFault;
+ghost use Rattle.cg_regspec.specs.Meaning.{RegisterMeans};
 ghost use Rattle.cg_regspec.specs.RegisterModule.{rows_ports, register_entries, register_module, register_module_name};
 ghost use Rattle.cg_svreg.specs.Interface.{interface, interface_module};
 ghost use Rattle.cg_svreg.specs.Narrow.{RowsAreNarrow};
@@ -18,6 +21,7 @@ use crate::states::{add_rows_flops, add_rows_states};
 use crate::windows::add_rows_windows;
 use cg_base::{List, Memory, Text};
 use cg_desc::{LaidBlock, LaidFace, LaidRow};
+use cg_regspec::register_module_means;
 use cg_sv::{Entry, Module, Port, SvRegFault, names_differ};
 use std::alloc::Global;
 
@@ -66,13 +70,16 @@ fn any_module(alloc: Global, name: &str, face: &LaidFace) -> Result<Module, Memo
 /// Its entries stand in this order: the stored fields' wires; six wires for each row; the answer to an access; each
 /// field's next value, and what hardware sees of it; what hardware sees of each window; the flip-flops. `Clash` has the
 /// first name that the module would declare twice, as `a_b_c_q` where register `A_B` has a field `C`, and register `A` a
-/// field `B_C`.
+/// field `B_C`. Under a good name the module acts as the interface's register block.
+#[tactic(auto, using(crate::proofs::Printing::made_means))]
 pub fn face_module(alloc: Global, name: &str, face: &LaidFace) -> Result<Module, SvRegFault>
     requires laid { IsLaid face.now }
     ensures made { IfOk result (λ m. module_of m ≡ register_module name.now face.now) }
+    ensures means { IfOk result (λ m. IsName name.now → RegisterMeans (module_of m) face.now) }
     ensures apart { OnOk result (first_repeat (module_names (register_module name.now face.now)) ≡ None) }
     ensures clash { (n : List ℕ) → result ≡ Err (SvRegFault.Clash n) → first_repeat (module_names (register_module name.now face.now)) ≡ Some n }
 {
+    register_module_means();
     let made = any_module(alloc, name, face)?;
     names_differ(alloc, &made)?;
     Ok(made)
@@ -92,11 +99,13 @@ fn module_name(alloc: Global, block: &str, face: &LaidFace) -> Result<Text, Memo
 }
 
 /// The register module of the block's device interface number `face`, counted from 0, under the name that block and
-/// interface give it. `Clash` is as for `face_module`.
+/// interface give it. `Clash` is as for `face_module`. With good names of both the module acts as the interface's register block.
+#[tactic(auto, using(crate::proofs::Printing::interface_module_is_name))]
 pub fn reg_module(alloc: Global, block: &LaidBlock, face: u32) -> Result<Module, SvRegFault>
     requires within { face < length block.now.faces }
     requires laid { IsLaid (interface block.now face) }
     ensures made { IfOk result (λ m. module_of m ≡ interface_module block.now face) }
+    ensures means { IfOk result (λ m. IsWord block.now.desc.name → IsNameIfAny (interface block.now face).name → RegisterMeans (module_of m) (interface block.now face)) }
     ensures apart { OnOk result (first_repeat (module_names (interface_module block.now face)) ≡ None) }
     ensures clash { (n : List ℕ) → result ≡ Err (SvRegFault.Clash n) → first_repeat (module_names (interface_module block.now face)) ≡ Some n }
 {

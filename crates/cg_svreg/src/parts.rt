@@ -1,6 +1,6 @@
 //! The parts of a concatenation, which is put together from its low end.
 
-ghost use Rattle.std.specs.Prelude.{◌≡◌, IfOk, OnOk};
+ghost use Rattle.std.specs.Prelude.{◌≡◌, OnOk};
 ghost use Rattle.cg_svspec.specs.Tree.{cat, none, more};
 ghost use Rattle.cg_sv.specs.Views.{expression_of};
 ghost use Rattle.cg_regspec.specs.RegisterModule.{gap};

@@ -1,9 +1,8 @@
 //! The ports of a register module.
 
-ghost use Rattle.std.specs.Prelude.{◌≡◌, ◌++◌, [], ◌∷◌, OnOk, map};
+ghost use Rattle.std.specs.Prelude.{◌≡◌, ◌++◌, OnOk, map};
 ghost use Rattle.cg_svspec.specs.Register.{input_port, output_port, access_ports};
 ghost use Rattle.cg_sv.specs.Views.{port_of};
-ghost use Rattle.cg_regspec.specs.NetNames.{base};
 ghost use Rattle.cg_regspec.specs.RegisterModule.{width_of, port_if, field_ports, fields_ports, window_ports, item_ports, rows_ports};
 
 use crate::access::{shows_q, shows_qe, shows_re, takes_d, takes_de, width_of};

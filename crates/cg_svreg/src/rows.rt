@@ -4,7 +4,7 @@ ghost use Rattle.std.specs.Prelude.{◌≡◌, ◌++◌, [], ◌∷◌, IfOk, On
 ghost use Rattle.std.specs.Fmt.{decimal};
 ghost use Rattle.cg_svspec.specs.Tree.{net, and, inv, pick, drive};
 ghost use Rattle.cg_sv.specs.Views.{expression_of, entry_of};
-ghost use Rattle.cg_regspec.specs.NetNames.{reg_we, reg_re, hit, wbad, rbad, we, re, rd};
+ghost use Rattle.cg_regspec.specs.NetNames.{reg_we, reg_re, hit, wbad, rbad};
 ghost use Rattle.cg_regspec.specs.RegisterModule.{hit_of, write_refused, read_refused, gated, item_gate, item_word_text, all_ones, row_entries, rows_entries};
 ghost use Rattle.cg_svreg.specs.Parts.{read_before};
 

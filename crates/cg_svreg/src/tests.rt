@@ -1,6 +1,6 @@
 //! Texts of small interfaces, and names that clash.
 
-ghost use Rattle.std.specs.Prelude.{◌≡◌, [], ◌∷◌, None, codes, IfOk};
+ghost use Rattle.std.specs.Prelude.{◌≡◌, [], ◌∷◌, None, IfOk};
 ghost use Rattle.cg_svspec.specs.Characters.{IsWord, IsName};
 ghost use Rattle.cg_desc.specs.Laid.{IsLaid};
 ghost use Rattle.cg_svreg.specs.Example.{a_field, a_register, register_row, window_row, a_face, data_face, status_face, locked_face, clashing_face};

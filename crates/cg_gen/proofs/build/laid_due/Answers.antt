@@ -1,4 +1,4 @@
-use Rattle.std.proofs.Common.{◌≡◌, ap, ◌∙◌, sym, refl, map, subst, [], Some}
+use Rattle.std.proofs.Common.{sym, subst, Some}
 use Rattle.cg_gen.specs.Build.{IsFirstFault, clash}
 use Rattle.cg_gen.proofs.Dues.{fault_is_due, outputs_are_due}
 use Rattle.cg_gen.proofs.Modules.{few_faces, is_named}

@@ -1,4 +1,4 @@
-use Rattle.std.proofs.Common.{◌≡◌, subst}
+use Rattle.std.proofs.Common.{subst}
 use Rattle.cg_layout.specs.Lays.{Lays}
 use Rattle.cg_gen.proofs.Found.{items_refused, items_sound, laid_found}
 use Rattle.cg_gen.proofs.file.laid_items.Goals as goal

@@ -1,4 +1,4 @@
-use Rattle.std.proofs.Common.{◌≤◌, arith, sym, subst}
+use Rattle.std.proofs.Common.{arith, sym, subst}
 use Rattle.std.specs.Str.{IsValidUpTo}
 use Rattle.cg_gen.specs.Build.{large, not_utf8}
 use Rattle.cg_gen.proofs.Found.{named}

@@ -1,4 +1,4 @@
-use Rattle.std.proofs.Common.{◌≡◌, ◌<◌, ◌≤◌, ◌++◌, length, ap, ◌∙◌, sym, arith, map, append-nil, Err}
+use Rattle.std.proofs.Common.{◌<◌, ◌++◌, length, ap, ◌∙◌, sym, arith, map, append-nil, Err}
 use Rattle.cg_sv.specs.Views.{module_of}
 use Rattle.cg_gen.specs.Build.{first_clash}
 use Rattle.cg_gen.proofs.Loops.{clash_here, no_clash_here, made_more, none_left, same_fault}
