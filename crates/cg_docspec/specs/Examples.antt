@@ -47,8 +47,10 @@ examples =
     example (codes "{\na: 1.50e+7, \n}") (read (says (string (codes "1.50e+7")))) ∷
     -- a multi-line string whose opening has three characters before it
     example (codes "{\na: ''' \n    x\n   y\n\n\r\n z\n   '''\n}") (read (says (string (codes " x\ny\n\n\nz")))) ∷
+    example (codes "{\na: 1E-5 # c\n}") (read (says (string (codes "1E-5")))) ∷
     -- escapes; two surrogates are one character
     example (codes "{\na: '\\ud83D\\uDe00\\n'}") (read (says (string (240 ∷ 159 ∷ 152 ∷ 128 ∷ 10 ∷ [])))) ∷
+    example (codes "{\na: '\\b\\f\\r\\t\\/\\u00e9'}") (read (says (string (8 ∷ 12 ∷ 13 ∷ 9 ∷ 47 ∷ 195 ∷ 169 ∷ [])))) ∷
     -- no separator is needed
     example (codes "{\na: [{}{}]}") (read (object_of (with_a (at 2 2 1) (list_of (object_of [] (at 6 2 5) ∷ object_of [] (at 8 2 7) ∷ []) (at 5 2 4)) ∷ []) origin)) ∷
     -- the 65th opener, and 64 of them

@@ -117,7 +117,7 @@ flop_sounds {inputs} {e} {es} r f word fit clock reset next state later = record
       };
       bare = tt;
     },
-    (clock.known, (reset.known, (next.known, (tt, tt)))),
+    (clock.known, (reset.known, (next.known, (state.known, tt)))),
     later.fit,
   );
 }

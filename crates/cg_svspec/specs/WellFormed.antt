@@ -237,10 +237,10 @@ abbrev pub port_nets : List Port → List Net
 port_nets [] = []
 port_nets (p ∷ ps) = stated p.name p.width ∷ port_nets ps
 
--- each connection that is no output uses only such nets
-abbrev pub ConnectionsUse : List (List ℕ) → List ℕ → List (List ℕ) → List Connection → Type 0
-ConnectionsUse inputs m known [] = Unit {0}
-ConnectionsUse inputs m known (c ∷ cs) = cond (is_output inputs m c) (Unit {0}) (Uses known c.value) × ConnectionsUse inputs m known cs
+-- each connection uses only such nets
+abbrev pub ConnectionsUse : List (List ℕ) → List Connection → Type 0
+ConnectionsUse known [] = Unit {0}
+ConnectionsUse known (c ∷ cs) = Uses known c.value × ConnectionsUse known cs
 
 -- The entries in text order: `nets` are declared above, and an expression may use those in `known`, which are the inputs, the
 -- nets that an instance drives, and those with an expression or an assignment above.
@@ -249,7 +249,7 @@ EntriesFit inputs nets known [] = Unit {0}
 EntriesFit inputs nets known (wire w n ∷ es) = EntriesFit inputs (stated n w ∷ nets) known es
 EntriesFit inputs nets known (drive w n x ∷ es) = HasWidth nets x w × Uses known x × EntriesFit inputs (stated n w ∷ nets) (n ∷ known) es
 EntriesFit inputs nets known (assign n x ∷ es) = ((w : ℕ) × Declares nets n w × HasWidth nets x w) × Uses known x × EntriesFit inputs nets (n ∷ known) es
-EntriesFit inputs nets known (inst m ps n cs ∷ es) = PartFits m nets ps cs × ConnectionsUse inputs m known cs × EntriesFit inputs nets known es
+EntriesFit inputs nets known (inst m ps n cs ∷ es) = PartFits m nets ps cs × ConnectionsUse known cs × EntriesFit inputs nets known es
 
 -- each of the names is among those
 abbrev pub AllAmong : List (List ℕ) → List (List ℕ) → Type 0
