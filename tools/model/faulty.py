@@ -202,7 +202,7 @@ class Changer:
 
 def odd_value(chance):
     """The text of a value that is spelled in an odd way, or of none."""
-    pieces = ["{", "}", "[", "]", ",", ":", "'", '"', "'''", "#", "//", "/*", "*/", "/", "\\", "\\n", "\\u00e9", "\\ud83d\\ude00", "\\u0001", "\n",
+    pieces = ["{", "}", "[", "]", ",", ":", "'", '"', "'''", "#", "//", "/*", "*/", "/", "\\", "\\n", "\\t", "\\b", "\\f", "\\r", "\\/", "\\u00e9", "\\ud83d\\ude00", "\\u0001", "\n",
               "\r\n", "\t", " ", "  ", "a", "b", "-", "0", "1", "17", "1.5", "2e3", "E", "true", "false", "null", "\u00e9", "\U0001f600", "\x7f"]
     made = "".join(chance.choice(pieces) for _ in range(chance.choice([1, 2, 3, 5, 8])))
     return chance.choice(["{}", "{}", "'{}'", '"{}"', "'''{}'''", "[{}]", "{{a: {}}}", "{}\n", " {} # c\n"]).format(made)
