@@ -1,4 +1,4 @@
-"""Reads a description's text, character by character, after docs/FORMATS.md: its values with their places, or where it fails."""
+"""Reads a description's text, character by character, after docs/FORMATS.md: values with their places, or a failure."""
 import dataclasses
 import re
 
@@ -20,7 +20,7 @@ class NotDocument(Exception):
 
 @dataclasses.dataclass(eq=False)
 class Value:
-    """A value: `kind` is null, bool, int, str, list or object; an object's data are members (key, place of it, value)."""
+    """A value: `kind` is null, bool, int, str, list or object. An object's data are its members: key, place, value."""
     kind: str
     data: object
     place: int

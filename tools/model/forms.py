@@ -94,7 +94,7 @@ def is_fit(holder, key, *forms):
 
 
 def of_table(holder, table):
-    """What an object breaks of a table: a key with its forms, the first of which is None where the key may be absent."""
+    """What an object breaks of a table of keys with their forms; the first is None where the key may be absent."""
     if holder.kind != "object":
         return []
     broken = []

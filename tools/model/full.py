@@ -1,8 +1,9 @@
-"""A block's completed description, after docs/FORMATS.md: its tree with everything said, as JSON. It shares nothing with the program."""
+"""A block's completed description, after docs/FORMATS.md: its tree with everything said, as JSON."""
 import json
 
 from model.forms import boolean, listed, number, text
-from model.rules import KNOWN_BY, LISTS, fields_of, mask_of, span
+from model.keys import KNOWN_BY, LISTS, span
+from model.rules import fields_of, mask_of
 
 REGISTER_SWITCHES = ["hwext", "hwqe", "hwre"]
 
@@ -70,9 +71,8 @@ def reset_of(register, field, held):
 def full_field(register, field, held):
     made = plain(held)
     high, low = span(held.member("bits"))
-    made |= {"bits": f"{high}:{low}", "name": field.name, "swaccess": field.software, "hwaccess": field.hardware, "mubi": field.mubi,
-             "resval": reset_of(register, field, held)}
-    return made
+    return made | {"bits": f"{high}:{low}", "name": field.name, "mubi": field.mubi, "swaccess": field.software,
+                   "hwaccess": field.hardware, "resval": reset_of(register, field, held)}
 
 
 def full_register(register):
@@ -82,7 +82,8 @@ def full_register(register):
     value = register.member("resval")
     if value is not None:
         made["resval"] = number(value) if number(value) is not None else int(boolean(value))
-    made["fields"] = [full_field(register, field, held) for field, held in zip(fields_of(register), listed(register, "fields"))]
+    written = zip(fields_of(register), listed(register, "fields"))
+    made["fields"] = [full_field(register, field, held) for field, held in written]
     return made
 
 

@@ -1,10 +1,9 @@
-"""The first fault of a block's description, after docs/FORMATS.md, from its text on. It shares nothing with the program."""
+"""The first fault of a block's description, after docs/FORMATS.md, from its text on."""
 import dataclasses
-import re
 
 from model import document
-from model.forms import (BOOLEAN, HARDWARE, LIST, LONG_NAME, NAME, NUMBER, OBJECT, SOFTWARE, TEXT, boolean, elements, fits,
-                         is_fit, length, listed, number, of_list, of_table, one_of, repeated, text, unfit)
+from model.forms import boolean, listed, number, text
+from model.keys import KNOWN_BY, block_keys, entry_lists, faces, span
 from model.layout import READABLE, WRITABLE
 
 PHRASES = {
@@ -15,171 +14,7 @@ PHRASES = {
     42: "too many interrupt bits", 70: "generated names clash",
 }
 LIMIT, END = 1 << 20, 1 << 24
-BITS = re.compile(r"([0-9]+):([0-9]+)")
-LISTS = ["interrupt_list", "alert_list", "param_list", "available_input_list", "available_output_list", "available_inout_list"]
-BLOCK = {
-    "name": [NAME], "clocking": [LIST], "bus_interfaces": [LIST], "registers": [LIST, OBJECT],
-    **{key: [None, LIST] for key in LISTS},
-    "no_auto_intr_regs": [None, BOOLEAN], "no_auto_alert_regs": [None, BOOLEAN], "regwidth": [None, NUMBER],
-}
-PIN = {"name": [NAME], "width": [None, ("number", 1, 64)]}
-OF_LISTS = {
-    "clocking": {"clock": [NAME], "reset": [None, NAME]},
-    "bus_interfaces": {"protocol": [TEXT], "direction": [one_of("device", "host")], "name": [None, NAME]},
-    "interrupt_list": {"name": [NAME], "type": [None, one_of("event", "status")], "width": [None, ("number", 1, 32)]},
-    "alert_list": {"name": [NAME]}, "param_list": {"name": [LONG_NAME], "default": [None, NUMBER, TEXT]},
-    "available_input_list": PIN, "available_output_list": PIN, "available_inout_list": PIN,
-}
-REGISTER = {
-    "name": [NAME], "swaccess": [None, one_of(*SOFTWARE)], "hwaccess": [None, one_of(*HARDWARE)],
-    "hwext": [None, BOOLEAN], "hwqe": [None, BOOLEAN], "hwre": [None, BOOLEAN], "regwen": [None, TEXT],
-    "resval": [None, NUMBER, BOOLEAN], "fields": [LIST],
-}
-MULTIREG = REGISTER | {"count": [NUMBER, LONG_NAME], "cname": [None, TEXT], "regwen_multi": [None, BOOLEAN],
-                       "compact": [None, BOOLEAN]}
-WINDOW = {"name": [NAME], "items": [NUMBER, LONG_NAME], "byte-write": [None, BOOLEAN],
-          "swaccess": [None, one_of("rw", "ro", "wo")]}
-FIELD = {"bits": [TEXT, NUMBER], "name": [None, NAME], "swaccess": [None, one_of(*SOFTWARE)],
-         "hwaccess": [None, one_of(*HARDWARE)], "resval": [None, NUMBER, BOOLEAN, one_of("x")], "mubi": [None, BOOLEAN]}
-KNOWN_BY = ["multireg", "window", "skipto", "reserved"]
 
-
-def outside(holder, key, only_if_true=False):
-    """The key's presence, or its truth, is outside the profile."""
-    value = holder.member(key)
-    if value is None or (only_if_true and boolean(value) is not True):
-        return []
-    return [(2, value.place, 26, key)]
-
-
-def span(value):
-    """The highest and lowest bit of `bits`, where it is good."""
-    if value is None:
-        return None
-    found = number(value)
-    if found is not None and found <= 31:
-        return found, found
-    ends = BITS.fullmatch(value.data) if value.kind == "str" else None
-    if ends and 31 >= int(ends[1]) >= int(ends[2]):
-        return int(ends[1]), int(ends[2])
-    return None
-
-
-# ---- keys
-
-def field_keys(register, field):
-    """What a field breaks of the rules on keys."""
-    if field.kind != "object":
-        return []
-    held = field.member("swaccess") or register.member("swaccess")
-    kind = "none" if held is None else held.data if fits(held, one_of(*SOFTWARE)) else None
-    bits = span(field.member("bits"))
-    strange = (bits is not None and bits[0] - bits[1] != 3) or (kind is not None and kind not in ("rw", "ro", "wo"))
-    return of_table(field, FIELD) + (outside(field, "mubi", True) if strange else [])
-
-
-def register_keys(register, table):
-    broken = of_table(register, table) + elements(register, "fields") + outside(register, "shadowed", True)
-    for key in ["async", "sync", "alias_target"]:
-        broken += outside(register, key)
-    for field in listed(register, "fields"):
-        broken += field_keys(register, field)
-    return broken
-
-
-def multireg_keys(multireg):
-    if multireg.kind != "object":
-        return unfit("multireg", multireg, OBJECT)
-    fields = multireg.member("fields")
-    clear = (fields is not None and fields.kind == "list" and all(field.kind == "object" for field in fields.data)
-             and is_fit(multireg, "regwen_multi", BOOLEAN))
-    several = clear and (len(fields.data) > 1 or boolean(multireg.member("regwen_multi")) is True)
-    return register_keys(multireg, MULTIREG) + (outside(multireg, "compact", True) if several else [])
-
-
-def entry_keys(entry):
-    if entry.kind != "object":
-        return []
-    broken = outside(entry, "sameaddr")
-    known = next((key for key in KNOWN_BY if entry.member(key) is not None), None)
-    if known is None:
-        return broken + register_keys(entry, REGISTER)
-    value = entry.member(known)
-    if known == "multireg":
-        return broken + multireg_keys(value)
-    if known == "window":
-        return broken + unfit("window", value, OBJECT) + of_table(value, WINDOW)
-    return broken + unfit(known, value, NUMBER)
-
-
-def entry_lists(block):
-    """The lists of entries with their keys: `registers`, or each of its members."""
-    value = block.member("registers")
-    if value is None:
-        return []
-    if value.kind == "object":
-        return [(key, held) for key, _, held in value.first_members()]
-    return [("registers", value)]
-
-
-def faces(block, direction):
-    return [face for face in listed(block, "bus_interfaces") if text(face, "direction") == direction]
-
-
-def good_faces(block):
-    """Whether each interface is an object with a direction, whose direction and name have their forms."""
-    value = block.member("bus_interfaces")
-    return value is not None and value.kind == "list" and all(
-        face.kind == "object" and face.member("direction") is not None
-        and is_fit(face, "direction", one_of("device", "host")) and is_fit(face, "name", NAME) for face in value.data)
-
-
-def face_keys(block):
-    devices, hosts = faces(block, "device"), faces(block, "host")
-    buses, registers = block.member("bus_interfaces"), block.member("registers")
-    broken = [(2, buses.place, 22, "bus_interfaces")] if len(devices) > 8 else []
-    if not good_faces(block):
-        return broken
-    names = [text(face, "name") for face in devices]
-    if len(devices) > 1:
-        broken += [(2, face.place, 21, "name") for face in devices if text(face, "name") is None]
-    for one_way in [names, [text(face, "name") for face in hosts]]:
-        if len(set(one_way)) < len(one_way):
-            broken.append((2, buses.place, 22, "bus_interfaces"))
-    if registers is None or registers.kind not in ("list", "object"):
-        return broken
-    wants_list = not names or names == [None]
-    if registers.kind == "list":
-        stray = not names and registers.data
-    else:
-        stray = any(value.items() for key, _, value in registers.first_members() if key not in names)
-        broken += [(2, registers.place, 21, name) for name in names if name and registers.member(name) is None]
-    if stray or wants_list != (registers.kind == "list"):
-        broken.append((2, registers.place, 22, "registers"))
-    return broken
-
-
-def block_keys(block):
-    """All that a block breaks of the rules on keys, kinds and the profile."""
-    broken = repeated(block) + of_table(block, BLOCK) + face_keys(block)
-    for key, table in OF_LISTS.items():
-        broken += elements(block, key)
-        for item in listed(block, key):
-            broken += of_table(item, table)
-    for key, least in [("clocking", 1), *[(key, 0) for key in LISTS[3:]]]:
-        broken += length(block, key, least, 64)
-    if fits(block.member("regwidth") or document.Value("int", 32, 0), NUMBER):
-        broken += outside(block, "regwidth") if number(block.member("regwidth")) not in (None, 32) else []
-    for face in listed(block, "bus_interfaces"):
-        broken += outside(face, "protocol") if text(face, "protocol") not in (None, "tlul") else []
-    for key, value in entry_lists(block):
-        broken += unfit(key, value, LIST) + of_list(key, value, OBJECT)
-        for entry in value.items():
-            broken += entry_keys(entry)
-    return broken
-
-
-# ---- values
 
 @dataclasses.dataclass(eq=False)
 class Field:
@@ -292,10 +127,15 @@ def automatic_items(block):
     return made
 
 
+def width_of(interrupt):
+    """How many bits an interrupt has."""
+    return number(interrupt.member("width")) if interrupt.member("width") else 1
+
+
 def automatic_fields(block, key, register):
     made, low = [], 0
     for source in listed(block, key):
-        width = number(source.member("width")) if key == "interrupt_list" and source.member("width") else 1
+        width = width_of(source) if key == "interrupt_list" else 1
         state = "ro" if text(source, "type") == "status" else "rw1c"
         software = {"INTR_STATE": state, "INTR_ENABLE": "rw"}.get(register, "wo")
         made.append(Field(text(source, "name"), source.member("name").place, low + width - 1, low, software,
@@ -336,7 +176,8 @@ def items_of(block, entry):
     for key in ["skipto", "reserved"]:
         if entry.member(key) is not None:
             return [Item(key, "", entry.member(key).place, span=number(entry.member(key)))]
-    return [Item("register", text(entry, "name"), entry.member("name").place, fields_of(entry), entry, text(entry, "regwen"))]
+    name = text(entry, "name")
+    return [Item("register", name, entry.member("name").place, fields_of(entry), entry, text(entry, "regwen"))]
 
 
 def interfaces(block):
@@ -376,8 +217,7 @@ def block_items(block):
         field_count += sum(len(item.fields) for item in held)
     if rows > 2048 or field_count > 4096:
         broken.append((4, block.member("registers").place, 38, ""))
-    widths = [number(source.member("width")) if source.member("width") else 1 for source in listed(block, "interrupt_list")]
-    if sum(widths) > 32:
+    if sum(width_of(source) for source in listed(block, "interrupt_list")) > 32:
         broken.append((4, block.member("interrupt_list").place, 42, ""))
     if len(listed(block, "alert_list")) > 32:
         broken.append((4, block.member("alert_list").place, 42, ""))
@@ -386,11 +226,16 @@ def block_items(block):
 
 # ---- offsets
 
+def is_external(item):
+    if item.entry is None:
+        return item.name in ("INTR_TEST", "ALERT_TEST")
+    return boolean(item.entry.member("hwext")) is True
+
+
 def may_gate(item):
-    external = item.entry is not None and boolean(item.entry.member("hwext")) is True
-    external = external or (item.entry is None and item.name in ("INTR_TEST", "ALERT_TEST"))
     field = item.fields[0]
-    return len(item.fields) == 1 and field.high == field.low and field.software in READABLE and not field.mubi and not external
+    plain = len(item.fields) == 1 and field.high == field.low and not field.mubi
+    return plain and field.software in READABLE and not is_external(item)
 
 
 def gates(items):
@@ -441,15 +286,9 @@ def field_ports(item, field, external):
     if external:
         kinds = ["q", "qe"] * (software in WRITABLE) + ["re", "d"] * (software in READABLE)
     else:
-        strobes = [key for key, switch in [("qe", "hwqe"), ("re", "hwre")] if entry and boolean(entry.member(switch)) is True]
-        kinds = (["q"] * (field.hardware in ("hro", "hrw")) + strobes + ["d", "de"] * (field.hardware in ("hwo", "hrw")))
+        strobes = [kind for kind in ["qe", "re"] if entry and boolean(entry.member(f"hw{kind}")) is True]
+        kinds = ["q"] * (field.hardware in ("hro", "hrw")) + strobes + ["d", "de"] * (field.hardware in ("hwo", "hrw"))
     return [f"{item.name}_{field.name}".lower() + "_" + kind for kind in kinds]
-
-
-def is_external(item):
-    if item.entry is None:
-        return item.name in ("INTR_TEST", "ALERT_TEST")
-    return boolean(item.entry.member("hwext")) is True
 
 
 def module_names(items):
@@ -522,7 +361,8 @@ def first_broken(bytes_of_file):
 
 
 def block_all_values(block):
-    return [broken for _, value in entry_lists(block) for entry in value.items() for broken in entry_values(block, entry)]
+    entries = [entry for _, value in entry_lists(block) for entry in value.items()]
+    return [broken for entry in entries for broken in entry_values(block, entry)]
 
 
 def first_line(name_of_file, bytes_of_file):
