@@ -39,6 +39,3 @@ pub use outside::{Failed, Found, Gate, OpenGate, Sink, SinkFault, Source, Store,
 pub use steps::Steps;
 pub use system::{FileStore, StdSink, StdSource};
 pub use text::Text;
-
-#[cfg(test)]
-mod tests;

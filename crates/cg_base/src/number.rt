@@ -2,9 +2,6 @@ ghost use Rattle.std.specs.Prelude.{◌≡◌, ◌↔◌, ◌+◌, ◌*◌, ◌<
 ghost use Rattle.cg_base.specs.Number.{IsNumber, ReadsNumber};
 ghost use Rattle.cg_base.specs.Number.Scan.{Finds, StandsFor, digits_of, number_of};
 
-#[cfg(test)]
-mod tests;
-
 /// Why a string gives no number.
 #[derive(Clone, Copy, Debug, PartialEq, Eq)]
 pub enum NumFault {

@@ -19,7 +19,7 @@ use subjects::Subject;
 use table::{rows, written_out};
 
 /// Says how many rows a subject has, and each that has another answer.
-fn tell<R: Threads + Sync>(
+fn tell<R: Files + Threads + Sync + Copy + Drop>(
     rt: &R,
     alloc: Global,
     subject: Subject,
@@ -46,7 +46,7 @@ fn read_text<R: Files>(rt: &R, alloc: Global, file: &str) -> io::Result<String> 
     io::read_to_string(alloc, File::open(rt, file)?)
 }
 
-fn told<R: Files + Threads + Sync>(rt: &R, alloc: Global) -> Result<String, Memory> {
+fn told<R: Files + Threads + Sync + Copy + Drop>(rt: &R, alloc: Global) -> Result<String, Memory> {
     let mut out = String::new(alloc);
     for subject in Subject::ALL {
         match read_text(rt, alloc, subject.file()) {

@@ -1,3 +1,0 @@
-mod memory_versions;
-mod system;
-mod values;
