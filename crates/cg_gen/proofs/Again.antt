@@ -10,7 +10,7 @@ use Rattle.cg_desc.specs.declared.block.LaidBlock.{LaidBlock}
 use Rattle.cg_desc.specs.declared.block.LaidFace.{LaidFace}
 use Rattle.cg_hjson.specs.Views.{tree_of}
 use Rattle.cg_hjson.specs.declared.tree.Tree.{Tree}
-use Rattle.cg_regspec.specs.RegisterModule.{register_module}
+use Rattle.cg_regspec.specs.RegisterModule.{register_module, module_of_face}
 use Rattle.cg_jsonspec.specs.Layout.{layout_text}
 use Rattle.cg_jsonspec.specs.Laws.{DocumentsAreSayable}
 use Rattle.cg_jsonspec.specs.ReadsBack.{ReadsBack}
@@ -21,11 +21,11 @@ use Rattle.cg_samespec.specs.Laws.{IsLaidSoundly, ReadFieldsAreApart, SameIsLaid
 use Rattle.cg_samespec.specs.Same.{WriteSame}
 use Rattle.cg_words.specs.declared.command.RegOut.{RegOut}
 use Rattle.cg_words.specs.declared.command.RegOut.TheVariants.{Registers, Header, Completed}
-use Rattle.cg_gen.specs.Build.{Output, by_name, clash_of, first_clash, module_of_face, or_else, outputs_of, register_output, IsBuilt, built}
+use Rattle.cg_gen.specs.Build.{Output, by_name, clash_of, first_clash, or_else, outputs_of, register_output, IsBuilt, built}
 use Rattle.cg_gen.specs.Meaning.{BuildsSame}
 use Rattle.cg_gen.specs.Stages.{limit, description, HasTree, IsLaidOutAs}
 use Rattle.cg_gen.proofs.Once.{not_both, same_tree}
-use Rattle.cg_gen.proofs.Seen.{seen}
+use Rattle.cg_hjson.proofs.SeenWhole.{seen}
 use Rattle.cg_gen.proofs.Valid.{is_read}
 
 -- the laws that are needed

@@ -9,7 +9,6 @@ pub mod Once
 pub mod Endings
 pub mod Kept
 pub mod Valid
-pub mod Seen
 pub mod Again
 pub mod Meanings
 pub mod Examples

@@ -12,7 +12,8 @@ use Rattle.cg_sv.specs.declared.tree.Module.{Module as Made}
 use Rattle.cg_svreg.specs.Interface.{interface, interface_module}
 use Rattle.cg_gen.specs.declared.due.Change.{Change}
 use Rattle.cg_gen.specs.Texts.{put_change, put_changes, text_change}
-use Rattle.cg_gen.specs.Build.{or_else, first_clash, module_of_face}
+use Rattle.cg_regspec.specs.RegisterModule.{module_of_face}
+use Rattle.cg_gen.specs.Build.{or_else, first_clash}
 
 -- the modules of the interfaces from number i on
 abbrev from : LaidBlock → ℕ → List Module

@@ -19,7 +19,7 @@ use Rattle.cg_hjson.specs.declared.tree.Tree.{Tree}
 use Rattle.cg_layout.specs.Lays.{AreLaidOut}
 use Rattle.cg_layout.proofs.Whole.{laid_faces}
 use Rattle.cg_regspec.specs.Laws.{RegisterModuleMeans}
-use Rattle.cg_regspec.specs.RegisterModule.{register_module_name}
+use Rattle.cg_regspec.specs.RegisterModule.{register_module_name, modules_of, module_of_face}
 use Rattle.cg_hdrspec.specs.BlockHeader.{header_names, header_text}
 use Rattle.cg_hdrspec.specs.Laws.{BlockHeaderMeans}
 use Rattle.cg_hdrspec.specs.Meaning.{HeaderMeans}
@@ -33,7 +33,7 @@ use Rattle.cg_gen.specs.declared.due.Due.{Due}
 use Rattle.cg_gen.specs.declared.words.Asked.{Asked}
 use Rattle.cg_gen.specs.declared.ending.Ending.{Ending}
 use Rattle.cg_gen.specs.declared.ending.Ending.TheVariants.{Built, Refused, NoCommand, ReadFailed, WriteFailed, Memory}
-use Rattle.cg_gen.specs.Build.{Output, first_clash, clash_of, modules_of, module_of_face, output_name, register_output, register_outputs, header_output, completed_output, outputs_of, IsBuilt, built}
+use Rattle.cg_gen.specs.Build.{Output, first_clash, clash_of, output_name, register_output, register_outputs, header_output, completed_output, outputs_of, IsBuilt, built}
 use Rattle.cg_gen.specs.Due.{IsAsked, refuses, builds, IsDue, no_command, command, changes_of, stored_name}
 use Rattle.cg_gen.specs.Meaning.{BuildsSame, HoldsModule, Holds, WritesBlock, WritesMeaning}
 use Rattle.cg_gen.specs.Run.{World, Performs, Ends, code_of, changed}

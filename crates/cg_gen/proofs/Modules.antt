@@ -16,9 +16,9 @@ use Rattle.cg_layout.specs.Lays.{AreLaidOut, IsLaidBlock}
 use Rattle.cg_hdrspec.specs.Laws.{IsNamed}
 use Rattle.cg_regspec.specs.Laws.{RegisterModuleMeans}
 use Rattle.cg_regspec.specs.Meaning.{RegisterMeans}
-use Rattle.cg_regspec.specs.RegisterModule.{register_module_name}
+use Rattle.cg_regspec.specs.RegisterModule.{register_module_name, module_of_face, modules_of}
 use Rattle.cg_regspec.proofs.WellNames.{block_module_name, interface_module_name}
-use Rattle.cg_gen.specs.Build.{or_else, first_clash, module_of_face, modules_of}
+use Rattle.cg_gen.specs.Build.{or_else, first_clash}
 
 -- ---- names
 

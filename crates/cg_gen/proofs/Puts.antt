@@ -5,9 +5,9 @@ use Rattle.std.proofs.lemmas.Cmp.{nat_cmp_total, tied_itself}
 use Rattle.std.specs.Cmp.Lexicographic.{slice_cmp}
 use Rattle.cg_desc.specs.declared.block.LaidBlock.{LaidBlock}
 use Rattle.cg_desc.specs.declared.block.LaidFace.{LaidFace}
-use Rattle.cg_regspec.specs.RegisterModule.{register_module}
+use Rattle.cg_regspec.specs.RegisterModule.{register_module, module_of_face, modules_of}
 use Rattle.cg_gen.specs.declared.due.Change.{Change}
-use Rattle.cg_gen.specs.Build.{Output, put_output, put_outputs, module_of_face, modules_of, register_output, register_outputs}
+use Rattle.cg_gen.specs.Build.{Output, put_output, put_outputs, register_output, register_outputs}
 use Rattle.cg_gen.specs.Due.{changes_of, stored_name}
 use Rattle.cg_gen.specs.Texts.{place_in, put_change, put_changes, text_change}
 

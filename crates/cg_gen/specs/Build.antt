@@ -17,7 +17,7 @@ use Rattle.cg_desc.specs.declared.block.LaidFace.{LaidFace}
 use Rattle.cg_hdrspec.specs.BlockHeader.{header_names, header_text}
 use Rattle.cg_words.specs.declared.command.RegOut.{RegOut}
 use Rattle.cg_words.specs.declared.command.RegOut.TheVariants.{Registers, Header, Completed}
-use Rattle.cg_regspec.specs.RegisterModule.{register_module, register_module_name}
+use Rattle.cg_regspec.specs.RegisterModule.{register_module_name, module_of_face, modules_of}
 use Rattle.cg_finding.specs.Finding.{Finding, finding, in_file}
 use Rattle.cg_finding.specs.Violations.{IsFirstViolation}
 use Rattle.cg_keys.specs.Duplicates.{at_of}
@@ -34,9 +34,6 @@ use Rattle.cg_gen.specs.Stages.{limit, IsText, description, HasTree, IsBlock, Ha
 abbrev pub module_name_of : LaidBlock → LaidFace → List ℕ
 module_name_of laid face = register_module_name laid.desc.name face.name
 
-abbrev pub module_of_face : LaidBlock → LaidFace → Module
-module_of_face laid face = register_module (module_name_of laid face) face
-
 abbrev pub or_else : Option (List ℕ) → Option (List ℕ) → Option (List ℕ)
 or_else None b = b
 or_else (Some a) b = Some a
@@ -45,9 +42,6 @@ or_else (Some a) b = Some a
 unfoldable pub first_clash : List Module → Option (List ℕ)
 first_clash [] = None
 first_clash (m ∷ ms) = or_else (first_repeat (module_names m)) (first_clash ms)
-
-abbrev pub modules_of : LaidBlock → List Module
-modules_of laid = map (module_of_face laid) laid.faces
 
 -- the first repeat among the names of its modules, module by module, or else among those that its header defines
 abbrev pub clash_of : LaidBlock → Option (List ℕ)

@@ -10,7 +10,8 @@ ghost use Rattle.cg_layout.specs.Lays.{IsLaidBlock};
 ghost use Rattle.cg_done.specs.Completed.{IsReadBlock};
 ghost use Rattle.cg_sv.specs.Views.{module_of};
 ghost use Rattle.cg_sv.specs.declared.fault.SvRegFault.TheVariants as SvRegFault;
-ghost use Rattle.cg_gen.specs.Build.{clash_of, modules_of, outputs_of};
+ghost use Rattle.cg_regspec.specs.RegisterModule.{modules_of};
+ghost use Rattle.cg_gen.specs.Build.{clash_of, outputs_of};
 ghost use Rattle.cg_gen.specs.Due.{changes_of, stored_name};
 ghost use Rattle.cg_gen.specs.Stages.{description};
 

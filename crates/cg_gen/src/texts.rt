@@ -7,7 +7,8 @@ ghost use Rattle.cg_svspec.specs.Printable.{AllOf, IsPrintable};
 ghost use Rattle.cg_desc.specs.Laid.{IsLaid};
 ghost use Rattle.cg_sv.specs.Views.{module_of};
 ghost use Rattle.cg_sv.specs.declared.fault.SvRegFault.TheVariants as SvRegFault;
-ghost use Rattle.cg_gen.specs.Build.{first_clash, modules_of};
+ghost use Rattle.cg_regspec.specs.RegisterModule.{modules_of};
+ghost use Rattle.cg_gen.specs.Build.{first_clash};
 ghost use Rattle.cg_gen.specs.Due.{stored_name};
 ghost use Rattle.cg_gen.specs.Texts.{place_in, put_change, put_changes, text_change};
 

@@ -1,4 +1,5 @@
--- The view of a tree loses nothing: a tree can be made again from what it stands for.
+-- The view of a tree loses nothing: a tree can be made again from what it stands for. And every tree of the grammar is one that a value of
+-- the program stands for.
 use Rattle.std.proofs.Common.{◌≡◌, ℕ, List, [], ◌∷◌, map, refl, sym, ap, ◌∙◌, subst}
 use Rattle.cg_docspec.specs.Place.{Place}
 use Rattle.cg_docspec.specs.Tree as document
@@ -98,3 +99,32 @@ whole = ind-Tree KindIsBack MemberIsBack TreeIsBack
 -- trees that stand for the same are the same
 pub seen_alike : (t u : Tree) → tree_of t ≡ tree_of u → t ≡ u
 seen_alike t u same = sym (whole t) ∙ ap tree_back same ∙ whole u
+
+-- what is made of a tree of the grammar stands for it
+mutual
+  unfolding tree_back kind_back trees_back members_back at_of
+
+  is_seen : (d : document.Tree) → tree_of (tree_back d) ≡ d
+  is_seen (document.tree kind at) = of-Tree (kind_back kind) (at_of at) ∙ ap (λ k. document.tree k at) (kind_is_seen kind)
+
+  kind_is_seen : (k : document.Kind) → kind_of (kind_back k) ≡ k
+  kind_is_seen document.null = of-Null
+  kind_is_seen (document.boolean b) = of-Bool b
+  kind_is_seen (document.integer n) = of-Int n
+  kind_is_seen (document.string u) = of-Str u
+  kind_is_seen (document.array ts) = of-Array (trees_back ts) ∙ ap document.array (trees_are_seen ts)
+  kind_is_seen (document.object ms) = of-Object (members_back ms) ∙ ap document.object (members_are_seen ms)
+
+  trees_are_seen : (ts : document.Trees) → document.trees (trees_of (trees_back ts)) ≡ ts
+  trees_are_seen document.no_trees = refl
+  trees_are_seen (document.tree_and t ts) = λ i. document.tree_and (is_seen t i) (trees_are_seen ts i)
+
+  members_are_seen : (ms : document.Members) → document.members (members_of (members_back ms)) ≡ ms
+  members_are_seen document.no_members = refl
+  members_are_seen (document.member_and key at value ms) =
+      ap (λ m. document.members (m ∷ members_of (members_back ms))) (of-Member key (at_of at) (tree_back value))
+      ∙ (λ i. document.member_and key at (is_seen value i) (members_are_seen ms i))
+
+-- a value of the program that stands for the tree
+pub seen : (d : document.Tree) → (t : Tree) × (tree_of t ≡ d)
+seen d = (tree_back d, is_seen d)

@@ -1,5 +1,5 @@
 -- The register module of a laid interface: ports and entries in their order and spelling.
-use Rattle.std.specs.Prelude.{ℕ, zero, suc, ◌+◌, ◌-◌, ◌/◌, ◌^◌, eqb, leb, Bool, false, ◌&&◌, cond, List, [], ◌∷◌, ◌++◌, codes, Option, Some, None}
+use Rattle.std.specs.Prelude.{ℕ, zero, suc, ◌+◌, ◌-◌, ◌/◌, ◌^◌, eqb, leb, Bool, false, ◌&&◌, cond, List, [], ◌∷◌, ◌++◌, map, codes, Option, Some, None}
 use Rattle.cg_svspec.specs.Tree.{Expression, net, cut, lit, cat, inv, any, and, or, equal, pick, Expressions, none, more, Port, Parameter, Connection, Entry, wire, drive, assign, inst, Module}
 use Rattle.cg_svspec.specs.Register.{access_ports, input_port, output_port}
 use Rattle.cg_svspec.specs.Value.{flop_name}
@@ -14,6 +14,7 @@ use Rattle.cg_desc.specs.declared.block.Item.{Item}
 use Rattle.cg_desc.specs.declared.block.Item.TheVariants.{Reg, Window, SkipTo, Reserved}
 use Rattle.cg_desc.specs.declared.block.LaidRow.{LaidRow}
 use Rattle.cg_desc.specs.declared.block.LaidFace.{LaidFace}
+use Rattle.cg_desc.specs.declared.block.LaidBlock.{LaidBlock}
 use Rattle.cg_regspec.specs.NetNames.{reg_we, reg_re, reg_addr, reg_wdata, reg_be, reg_rdata, reg_error, hit_any, wbad_any, rbad_any, hit, wbad, rbad, we, re, rd, state_net, hold_net, next_net, q_net, qe_net, re_net, d_net, de_net, flop_instance, window_we, window_re, window_addr, window_wdata, window_be, window_rdata}
 
 -- ---- ports
@@ -300,3 +301,10 @@ register_module name face = record { name = name; ports = access_ports ++ rows_p
 abbrev pub register_module_name : List ℕ → Option (List ℕ) → List ℕ
 register_module_name block None = block ++ codes "_reg_top"
 register_module_name block (Some interface) = block ++ (codes "_" ++ (interface ++ codes "_reg_top"))
+
+-- the register module of an interface of a block, and those of all its interfaces
+abbrev pub module_of_face : LaidBlock → LaidFace → Module
+module_of_face laid face = register_module (register_module_name laid.desc.name face.name) face
+
+abbrev pub modules_of : LaidBlock → List Module
+modules_of laid = map (module_of_face laid) laid.faces

@@ -2,14 +2,13 @@
 use Rattle.std.specs.Prelude.{◌≡◌, false, List, [], ◌∷◌, map}
 use Rattle.std.specs.Str.{str_eq_ignore_ascii_case}
 use Rattle.cg_svspec.specs.Printable.{AllOf}
-use Rattle.cg_svspec.specs.Tree.{Module}
 use Rattle.cg_desc.specs.Items.{items_of_block}
 use Rattle.cg_desc.specs.declared.block.FieldDesc.{FieldDesc}
 use Rattle.cg_desc.specs.declared.block.Item.{Item}
 use Rattle.cg_desc.specs.declared.block.Item.TheVariants.{Reg, Window, SkipTo, Reserved}
 use Rattle.cg_desc.specs.declared.block.BlockDesc.{BlockDesc}
 use Rattle.cg_desc.specs.declared.block.LaidBlock.{LaidBlock}
-use Rattle.cg_regspec.specs.RegisterModule.{register_module, register_module_name}
+use Rattle.cg_regspec.specs.RegisterModule.{modules_of}
 use Rattle.cg_hdrspec.specs.BlockHeader.{header_names, header_text}
 
 -- no two of the fields have names that are the same without regard to case
@@ -27,10 +26,6 @@ ItemIsApart (Reserved words at) = Unit {0}
 -- and in each register of a block, those that come of themselves and copies included
 abbrev pub FieldsAreApart : BlockDesc → Type 0
 FieldsAreApart b = AllOf (λ face. AllOf ItemIsApart face.items) (items_of_block b)
-
--- the register modules of a block
-abbrev pub modules_of : LaidBlock → List Module
-modules_of laid = map (λ face. register_module (register_module_name laid.desc.name face.name) face) laid.faces
 
 -- what is written of two blocks that are laid out is the same
 pub record WriteSame (a b : LaidBlock) : Type 0 where

@@ -4,7 +4,8 @@ use Rattle.cg_desc.specs.declared.block.BlockDesc.{BlockDesc}
 use Rattle.cg_hdrspec.specs.BlockHeader.{header_names}
 use Rattle.cg_blkread.specs.Described.{block_of}
 use Rattle.cg_sv.specs.Views.{module_of}
-use Rattle.cg_gen.specs.Build.{first_clash, modules_of, outputs_of}
+use Rattle.cg_regspec.specs.RegisterModule.{modules_of}
+use Rattle.cg_gen.specs.Build.{first_clash, outputs_of}
 use Rattle.cg_gen.specs.Due.{changes_of}
 use Rattle.cg_gen.specs.Texts.{put_changes, text_change}
 use Rattle.cg_gen.proofs.Modules.{all_printable, neither}

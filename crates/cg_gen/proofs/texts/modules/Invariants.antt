@@ -1,6 +1,7 @@
 use Rattle.std.proofs.Common.{◌≡◌, ◌++◌, map, drop}
 use Rattle.cg_sv.specs.Views.{module_of}
-use Rattle.cg_gen.specs.Build.{first_clash, module_of_face, modules_of}
+use Rattle.cg_regspec.specs.RegisterModule.{module_of_face, modules_of}
+use Rattle.cg_gen.specs.Build.{first_clash}
 use Rattle.cg_gen.proofs.texts.modules.Given as goal
 
 -- the modules so far and those that are left are the block's, and none so far has a clash
