@@ -30,6 +30,3 @@ pub use json_value::{members_are_kept, to_json};
 pub use place::{START, place_behind};
 pub use reader::{HjsonFault, read};
 pub use tree::{Kind, Member, Tree};
-
-#[cfg(test)]
-mod tests;

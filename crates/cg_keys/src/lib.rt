@@ -16,8 +16,6 @@ mod lists;
 mod lookups;
 mod names;
 mod table;
-#[cfg(test)]
-mod tests;
 mod values;
 mod words;
 

@@ -2,54 +2,87 @@
 
 use cg_base::Memory;
 use std::alloc::Global;
-use std::fs::Files;
 use std::thread::Threads;
 
+mod documents;
+mod duplicates;
+mod json;
+mod keys;
+mod lists;
+mod names;
 mod numbers;
-mod stores;
-mod streams;
+mod trees;
 mod values;
+mod words;
 
 /// What the rows of a table are about.
 #[derive(Clone, Copy)]
 pub enum Subject {
-    Values,
     Numbers,
-    Stores,
-    Streams,
+    Words,
+    Documents,
+    Places,
+    Json,
+    Names,
+    Values,
+    Lookups,
+    Keys,
+    Lists,
+    Duplicates,
 }
 
 impl Subject {
     /// All subjects, lowest crate first.
-    pub const ALL: [Subject; 4] = [
-        Subject::Values,
+    pub const ALL: [Subject; 11] = [
         Subject::Numbers,
-        Subject::Stores,
-        Subject::Streams,
+        Subject::Words,
+        Subject::Documents,
+        Subject::Places,
+        Subject::Json,
+        Subject::Names,
+        Subject::Values,
+        Subject::Lookups,
+        Subject::Keys,
+        Subject::Lists,
+        Subject::Duplicates,
     ];
 
     /// The file of the subject's table.
     pub fn file(self) -> &'static str {
         match self {
-            Subject::Values => "values.txt",
             Subject::Numbers => "numbers.txt",
-            Subject::Stores => "stores.txt",
-            Subject::Streams => "streams.txt",
+            Subject::Words => "words.txt",
+            Subject::Documents => "documents.txt",
+            Subject::Places => "places.txt",
+            Subject::Json => "json.txt",
+            Subject::Names => "names.txt",
+            Subject::Values => "values.txt",
+            Subject::Lookups => "lookups.txt",
+            Subject::Keys => "keys.txt",
+            Subject::Lists => "lists.txt",
+            Subject::Duplicates => "duplicates.txt",
         }
     }
 
     /// What comes of the text that a row gives.
-    pub fn answer<R: Files + Threads + Sync + Copy + Drop>(
+    pub fn answer<R: Threads + Sync>(
         self,
-        rt: &R,
+        _rt: &R,
         alloc: Global,
         given: &str,
     ) -> Result<String, Memory> {
         match self {
-            Subject::Values => values::answer(alloc, given),
             Subject::Numbers => numbers::answer(alloc, given),
-            Subject::Stores => stores::answer(rt, alloc, given),
-            Subject::Streams => streams::answer(alloc, given),
+            Subject::Words => words::answer(alloc, given),
+            Subject::Documents => documents::answer(alloc, given),
+            Subject::Places => documents::answer_with_places(alloc, given),
+            Subject::Json => json::answer(alloc, given),
+            Subject::Names => names::answer(alloc, given),
+            Subject::Values => values::answer(alloc, given),
+            Subject::Lookups => values::answer_for_each(alloc, given),
+            Subject::Keys => keys::answer(alloc, given),
+            Subject::Lists => lists::answer(alloc, given),
+            Subject::Duplicates => duplicates::answer(alloc, given),
         }
     }
 }

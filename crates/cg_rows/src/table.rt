@@ -11,10 +11,10 @@
 //! ```
 //!
 //! A text that ends in a line feed ends in an empty line there. Between rows, every other line says nothing. In what is given and what is wanted a picture of
-//! a control character, as `␍`, stands for that character, and `⟪text×3⟫` for three texts, each with its number, from 0, in
-//! place of each `№`.
+//! a control character, as `␍`, stands for that character, `␠` for a space, `⟪0xFEFF⟫` for the character with that number, and
+//! `⟪text×3⟫` for three texts, each with its number, from 0, in place of each `№`.
 
-use cg_base::Memory;
+use cg_base::{Memory, parse_int};
 use std::alloc::Global;
 
 /// One row of a table.
@@ -108,7 +108,7 @@ pub fn rows(alloc: Global, table: &str) -> Result<Vec<Row>, Memory> {
     Ok(reader.rows)
 }
 
-/// The control character that a picture shows (Unicode, block 2400), or the character itself.
+/// The control character or space that a picture shows (Unicode, block 2400), or the character itself.
 fn shown(picture: char) -> char {
     match picture {
         '␀' => '\0',
@@ -121,6 +121,7 @@ fn shown(picture: char) -> char {
         '␍' => '\r',
         '␛' => '\u{1b}',
         '␟' => '\u{1f}',
+        '␠' => ' ',
         '␡' => '\u{7f}',
         other => other,
     }
@@ -147,7 +148,16 @@ fn add_times(out: &mut String, text: &str, count: u32) -> Result<(), Memory> {
     Ok(())
 }
 
-/// A text as it stands in a row, with its pictures and repeats written out.
+/// Adds the character with that number.
+fn add_numbered(out: &mut String, number: &str) -> Result<(), Memory> {
+    let number = parse_int(number).ok().and_then(|n| u32::try_from(n).ok());
+    if let Some(c) = number.and_then(|n| char::from_u32(n)) {
+        out.push(c)?;
+    }
+    Ok(())
+}
+
+/// A text as it stands in a row, with its pictures, numbers and repeats written out.
 pub fn written_out(alloc: Global, text: &str) -> Result<String, Memory> {
     let mut out = String::new(alloc);
     for piece in text.split('⟪') {
@@ -157,6 +167,8 @@ pub fn written_out(alloc: Global, text: &str) -> Result<String, Memory> {
         };
         if let Some((what, count)) = repeat.split_once('×') {
             add_times(&mut out, what, count.parse().unwrap_or(0))?;
+        } else {
+            add_numbered(&mut out, repeat)?;
         }
         add_shown(&mut out, rest)?;
     }

@@ -14,8 +14,6 @@
 mod command;
 mod fault;
 mod reading;
-#[cfg(test)]
-mod tests;
 mod tools;
 mod values;
 

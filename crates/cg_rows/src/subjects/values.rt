@@ -1,82 +1,108 @@
-//! Masks, multiples, lists and texts.
+//! What the values of objects are.
 
-use cg_base::{FileMap, List, Memory, Text, align_up, mask};
+use super::trees::{no_document, read_tree};
+use cg_base::Memory;
+use cg_hjson::{Member, START};
+use cg_keys::{
+    Form, Words, array, bool_of, boolean_at, elements, hardware_at, int, is_fit_at, members,
+    number_at, object_at, place_at, software_at, text_at, value_at, window_access_at,
+};
 use std::alloc::Global;
 
-fn aligned(alloc: Global, text: &str) -> Result<String, Memory> {
-    let (number, to) = text.split_once(' ').unwrap_or((text, ""));
-    let number = number.parse().unwrap_or(0);
-    let least = if to == "8" {
-        align_up(number, 8)
-    } else {
-        align_up(number, 4)
+/// Adds the kind of the value at a key, and the value.
+fn add_kind(out: &mut String, members: &[Member], key: &str) -> Result<(), Memory> {
+    let Some(value) = value_at(members, key) else {
+        return Ok(out.push_str("absent")?);
     };
-    match least {
-        Some(multiple) => Ok(format!(in alloc; "{multiple}")?),
-        None => Ok(String::from_str(alloc, "none")?),
+    if let Some(number) = int(value) {
+        write!(out, "integer {number}")?;
+    } else if let Some(truth) = bool_of(value) {
+        write!(out, "bool {truth}")?;
+    } else if let Some(text) = text_at(members, key) {
+        write!(out, "text \"{text}\"")?;
+    } else if array(value).is_some() {
+        let count = elements(members, key).len();
+        write!(out, "list of {count}")?;
+    } else if let Some(inner) = object_at(members, key) {
+        let count = inner.len();
+        write!(out, "object of {count}")?;
+    } else {
+        out.push_str("null")?;
     }
-}
-
-fn masked(alloc: Global, width: &str) -> Result<String, Memory> {
-    let width: u32 = width.parse().unwrap_or(0);
-    let mask = mask(width.min(64));
-    Ok(format!(in alloc; "{mask:x}")?)
-}
-
-fn add_bytes(list: &List<u8>, out: &mut String) -> Result<(), Memory> {
-    let text = str::from_utf8(list.as_slice()).unwrap_or("?");
-    let length = list.len();
-    writeln!(out, "{length} {text}")?;
     Ok(())
 }
 
-/// A list of the text's bytes: as it is, without its last item, with `x` before that, and with `yz` behind.
-fn listed(alloc: Global, text: &str) -> Result<String, Memory> {
+/// Adds the number, the boolean and the accesses that the value at a key says.
+fn add_meanings(out: &mut String, members: &[Member], key: &str) -> Result<(), Memory> {
+    if let Some(number) = number_at(0, 0xffff_ffff, members, key) {
+        write!(out, ", number {number}")?;
+    }
+    if let Some(truth) = boolean_at(members, key) {
+        write!(out, ", boolean {truth}")?;
+    }
+    if let Some(access) = software_at(members, key) {
+        write!(out, ", software {access:?}")?;
+    }
+    if let Some(access) = hardware_at(members, key) {
+        write!(out, ", hardware {access:?}")?;
+    }
+    if let Some(access) = window_access_at(members, key) {
+        write!(out, ", window {access:?}")?;
+    }
+    Ok(())
+}
+
+/// Adds the lists of words that a key may have here: those with the value's word, and all where the key is absent.
+fn add_lists(out: &mut String, members: &[Member], key: &str) -> Result<(), Memory> {
+    for words in [
+        Words::Direction,
+        Words::InterruptType,
+        Words::NodeType,
+        Words::Joint,
+        Words::Unknown,
+    ] {
+        if is_fit_at(&[Form::Word(words)], members, key) {
+            write!(out, ", {words:?}")?;
+        }
+    }
+    Ok(())
+}
+
+fn add_value(out: &mut String, members: &[Member], key: &str) -> Result<(), Memory> {
+    add_kind(out, members, key)?;
+    add_meanings(out, members, key)?;
+    add_lists(out, members, key)
+}
+
+/// What a value is, as it would stand at a key.
+pub fn answer(alloc: Global, given: &str) -> Result<String, Memory> {
+    let text = format!(in alloc; "{{k: {given}\n}}")?;
+    let Some(tree) = read_tree(alloc, text.as_str())? else {
+        return no_document(alloc);
+    };
     let mut out = String::new(alloc);
-    let mut list = List::of(alloc, text.as_bytes())?;
-    add_bytes(&list, &mut out)?;
-    let copy = list.copy()?;
-    list.pop();
-    add_bytes(&list, &mut out)?;
-    let last = list.len().saturating_sub(1);
-    list.insert(last, b'x')?;
-    list.add(b"yz")?;
-    add_bytes(&list, &mut out)?;
-    let is_same = list.same(&copy);
-    let is_equal = copy == List::of(list.alloc(), text.as_bytes())?;
-    write!(&mut out, "same {is_same}, equal {is_equal}")?;
+    add_value(&mut out, members(&tree), "k")?;
     Ok(out)
 }
 
-/// A text: its length in bytes, with `!` behind, its copy, and whether it stands before `b`.
-fn texted(alloc: Global, text: &str) -> Result<String, Memory> {
-    let mut changed = Text::of(alloc, text)?;
-    let copy = changed.copy()?;
-    changed.add("!")?;
-    let length = copy.len();
-    let is_before = copy < Text::of(changed.alloc(), "b")?;
-    let whole = Text::from_string(changed.into_string());
-    Ok(format!(in alloc; "{length} {whole} {copy} before b: {is_before}")?)
+fn add_line(out: &mut String, members: &[Member], key: &str) -> Result<(), Memory> {
+    let place = place_at(members, key, START);
+    write!(out, "{key} at {}: ", place.byte)?;
+    add_value(out, members, key)?;
+    out.push('\n')?;
+    Ok(())
 }
 
-/// A map of files: one inserted, one written, and the first removed.
-fn filed(alloc: Global, name: &str) -> Result<String, Memory> {
-    let mut files = FileMap::new(alloc);
-    files.insert("a", List::of(alloc, b"one")?)?;
-    files.write("b", b"two")?;
-    files.remove("a");
-    let text = str::from_utf8(files.get(name).unwrap_or(b"none")).unwrap_or("?");
-    Ok(String::from_str(alloc, text)?)
-}
-
-/// What comes of the value behind the first word.
-pub fn answer(alloc: Global, given: &str) -> Result<String, Memory> {
-    let (verb, text) = given.split_once(' ').unwrap_or((given, ""));
-    match verb {
-        "align" => aligned(alloc, text),
-        "mask" => masked(alloc, text),
-        "list" => listed(alloc, text),
-        "files" => filed(alloc, text),
-        _ => texted(alloc, text),
+/// What stands at each key of an object, and at the key `z`, a line each.
+pub fn answer_for_each(alloc: Global, given: &str) -> Result<String, Memory> {
+    let Some(tree) = read_tree(alloc, given)? else {
+        return no_document(alloc);
+    };
+    let mut out = String::new(alloc);
+    for member in members(&tree) {
+        add_line(&mut out, members(&tree), member.key.as_str())?;
     }
+    add_line(&mut out, members(&tree), "z")?;
+    out.pop();
+    Ok(out)
 }

@@ -1,5 +1,5 @@
 use Rattle.std.proofs.Common.{refl}
-use Rattle.cg_rows.proofs.subjects.values.aligned.Goals as goal
+use Rattle.cg_rows.proofs.subjects.basics.aligned.Goals as goal
 
 pub align_up-least-requires-clause-power : goal.align_up-least-requires-clause-power
 align_up-least-requires-clause-power c = (3, refl)
