@@ -18,7 +18,10 @@ fn show_field(field: &FieldDesc, out: &mut String) -> Result<(), AllocError> {
     let hw = field.hw;
     let resval = field.resval;
     let mubi = flag(field.mubi, " mubi");
-    write!(out, "\nfield {name} {msb}:{lsb} {sw:?} {hw:?} {resval}{mubi}")
+    write!(
+        out,
+        "\nfield {name} {msb}:{lsb} {sw:?} {hw:?} {resval}{mubi}"
+    )
 }
 
 fn show_register(register: &RegDesc, out: &mut String) -> Result<(), AllocError> {
@@ -146,10 +149,7 @@ fn show_block(block: &BlockDesc, out: &mut String) -> Result<(), AllocError> {
 
 /// The lines without the line feed that each of them begins with.
 fn lines_of(alloc: Global, shown: &str) -> Result<String, Memory> {
-    Ok(String::from_str(
-        alloc,
-        shown.strip_prefix("\n").unwrap_or(shown),
-    )?)
+    Ok(String::from_str(alloc, shown.strip_prefix("\n").unwrap_or(shown))?)
 }
 
 /// A line for each part of a block, or the line of its first fault.

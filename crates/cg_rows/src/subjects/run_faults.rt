@@ -35,8 +35,16 @@ fn run_counted<L: Ledger, R: Threads + Sync>(
     Ok(format!(in alloc; "{line}{status}")?)
 }
 
-/// The line on standard error of a run over the description, without the file's name; with another status than 1 that
-/// line and the status.
+/// The line without the file's name, where the run had the status 1.
+fn line_of(told: &str) -> &str {
+    match told.strip_prefix("b.hjson:") {
+        Some(line) => line.strip_suffix("\n1").unwrap_or(told),
+        None => told,
+    }
+}
+
+/// The line on standard error of a run over the description, without the file's name, where the status is 1; else all that
+/// stands there, and the status behind it.
 pub fn answer<R: Threads + Sync>(rt: &R, alloc: Global, document: &str) -> Result<String, Memory> {
     let mut words = Vec::new(alloc);
     for word in REGTOOL {
@@ -45,10 +53,5 @@ pub fn answer<R: Threads + Sync>(rt: &R, alloc: Global, document: &str) -> Resul
     let mut store = MemStore::new(alloc, List::new(alloc), List::new(alloc));
     store.add("b.hjson", document.as_bytes())?;
     let told = run_counted::<Brand, _>(rt, alloc, &words, &mut store, Blank::new(1))?;
-    let told = told.as_str();
-    let line = told.strip_prefix("b.hjson:").unwrap_or(told);
-    Ok(String::from_str(
-        alloc,
-        line.strip_suffix("\n1").unwrap_or(told),
-    )?)
+    Ok(String::from_str(alloc, line_of(told.as_str()))?)
 }

@@ -37,10 +37,7 @@ impl Stop {
             Stop::Refused(DescFault::Fault(fault)) => {
                 let line = fault_text(alloc, &fault, "")?;
                 let line = line.as_str();
-                Ok(String::from_str(
-                    alloc,
-                    line.strip_prefix(":").unwrap_or(line),
-                )?)
+                Ok(String::from_str(alloc, line.strip_prefix(":").unwrap_or(line))?)
             }
             Stop::Refused(DescFault::Memory) => Err(Memory),
         }
