@@ -36,6 +36,3 @@ pub use raw::{Bits, RawEntry, RawField, RawMultireg, RawRegister, RawWindow};
 pub use read_entries::is_compact;
 pub use read_fields::{Shared, is_true, register_reset, shared_of, written_fields};
 pub use reading::block;
-
-#[cfg(test)]
-mod tests;

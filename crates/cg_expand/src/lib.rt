@@ -21,6 +21,3 @@ mod names;
 mod sizes;
 
 pub use block::expand;
-
-#[cfg(test)]
-mod tests;

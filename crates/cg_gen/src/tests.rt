@@ -3,7 +3,6 @@
 mod blocks;
 mod faults;
 mod headers;
-mod laid;
 mod running;
 mod texts;
 mod words;

@@ -1,4 +1,3 @@
 pub mod Violations
 pub mod Lays
 pub mod Inner
-pub mod Example

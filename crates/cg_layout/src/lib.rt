@@ -18,6 +18,3 @@ mod layout;
 mod offsets;
 
 pub use layout::lay;
-
-#[cfg(test)]
-mod tests;
