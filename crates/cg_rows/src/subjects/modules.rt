@@ -64,19 +64,25 @@ fn is_of(line: &str, name: &str) -> bool {
     false
 }
 
+/// Adds the lines of the net or instance of this name.
+fn add_lines(lines: &mut String, texts: &str, name: &str) -> Result<(), Memory> {
+    for line in texts.lines() {
+        if is_of(line, name) {
+            lines.push_str(line)?;
+            lines.push('\n')?;
+        }
+    }
+    Ok(())
+}
+
 /// The lines of a block's modules that are of the names in the first line, name by name.
 pub fn lines(alloc: Global, given: &str) -> Result<String, Memory> {
     let (names, block) = given.split_once('\n').unwrap_or((given, ""));
     let texts = answer(alloc, block)?;
     let mut lines = String::new(alloc);
-    let mut before = "";
     for name in names.split(' ') {
-        for line in texts.lines() {
-            if is_of(line, name) {
-                write!(&mut lines, "{before}{line}")?;
-                before = "\n";
-            }
-        }
+        add_lines(&mut lines, texts.as_str(), name)?;
     }
+    lines.pop();
     Ok(lines)
 }
