@@ -52,7 +52,7 @@ pub fn answer(alloc: Global, given: &str) -> Result<String, Memory> {
     }
 }
 
-/// Whether a line drives the net of this name, or begins the instance of this name.
+/// Whether a line drives the net of this name, or begins the instance or the module of this name.
 fn is_of(line: &str, name: &str) -> bool {
     let mut behind = false;
     for word in line.split(' ') {
@@ -64,7 +64,7 @@ fn is_of(line: &str, name: &str) -> bool {
     false
 }
 
-/// Adds the lines of the net or instance of this name.
+/// Adds the lines of the net, the instance or the module of this name.
 fn add_lines(lines: &mut String, texts: &str, name: &str) -> Result<(), Memory> {
     for line in texts.lines() {
         if is_of(line, name) {
