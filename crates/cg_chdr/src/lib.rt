@@ -17,8 +17,6 @@ mod names;
 mod numeral;
 mod pieces;
 mod reading;
-#[cfg(test)]
-mod tests;
 mod values;
 
 use cg_base::Text;

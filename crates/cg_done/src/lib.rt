@@ -33,6 +33,3 @@ pub fn completed_is_same()
 pub fn completed_is_sound()
     ensures { CompletedIsSound }
 {}
-
-#[cfg(test)]
-mod tests;

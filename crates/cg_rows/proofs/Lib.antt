@@ -1,1 +1,1 @@
-mod KeysOnce
+pub mod Interfaces

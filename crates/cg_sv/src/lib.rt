@@ -18,8 +18,6 @@ mod fault;
 mod layout;
 pub mod make;
 mod names;
-#[cfg(test)]
-mod tests;
 mod tree;
 
 pub use fault::SvRegFault;

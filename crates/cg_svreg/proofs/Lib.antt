@@ -2,6 +2,5 @@ pub mod Lists
 pub mod Narrow
 pub mod ReadBefore
 pub mod Terms
-pub mod Examples
 pub mod Printing
 pub mod RowsLeft

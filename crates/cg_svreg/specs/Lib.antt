@@ -2,4 +2,3 @@ pub mod Parts
 pub mod Narrow
 pub mod Named
 pub mod Interface
-pub mod Example

@@ -23,8 +23,6 @@ mod ports;
 mod refusals;
 mod rows;
 mod states;
-#[cfg(test)]
-mod tests;
 mod windows;
 mod words;
 

@@ -1,4 +1,4 @@
--- An example: a module with each form of entry and of expression. The tests make it, and print it.
+-- An example: a module with each form of entry and of expression. The rows print it.
 use Rattle.std.specs.Prelude.{List, [], ◌∷◌, codes}
 use Rattle.cg_svspec.specs.Tree.{Expression, net, cut, lit, cat, inv, any, and, or, equal, pick, none, more, Port, Parameter, Connection, Entry, wire, drive, assign, inst, Module}
 use Rattle.cg_svspec.specs.Register.{input_port, output_port}
