@@ -5,15 +5,17 @@ use cg_base::Memory;
 use std::alloc::Global;
 use std::thread::Threads;
 
-/// The lines of a text that have this piece.
+/// The lines of a text that have this piece, which is not empty.
 fn lines_with(alloc: Global, text: &str, piece: &str) -> Result<String, Memory> {
     let mut lines = String::new(alloc);
-    let mut before = "";
     for line in text.lines() {
-        if line.contains(piece) {
-            write!(&mut lines, "{before}{line}")?;
-            before = "\n";
+        if !line.contains(piece) {
+            continue;
         }
+        if !lines.is_empty() {
+            lines.push('\n')?;
+        }
+        lines.push_str(line)?;
     }
     Ok(lines)
 }
