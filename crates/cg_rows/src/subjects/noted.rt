@@ -2,14 +2,14 @@ ghost use Rattle.std.specs.Prelude.{◌≡◌, None, IsErrOf};
 ghost use Rattle.cg_base.specs.Outside.{HasCause, ReadInto};
 
 use cg_base::{Found, List, MemStore, Memory, Store, StoreFault};
-use std::alloc::{AllocError, Global};
+use std::alloc::Global;
 
-/// A store in memory that notes the names of the files that are written, in order. Its content is not told.
+/// A store in memory that notes its changes, in order. Its content is not told.
 #[derive(Drop)]
 pub struct NotedStore {
     alloc: Global,
     store: MemStore,
-    names: Vec<String>,
+    changes: Vec<String>,
 }
 
 impl NotedStore {
@@ -18,11 +18,11 @@ impl NotedStore {
         NotedStore {
             alloc,
             store: MemStore::new(alloc, bad_reads, bad_changes),
-            names: Vec::new(alloc),
+            changes: Vec::new(alloc),
         }
     }
 
-    /// Sets a file, which counts as no call and is not noted.
+    /// Sets a file, which counts as no call and is no change.
     pub fn add(&mut self, name: &str, bytes: &[u8]) -> Result<(), Memory> {
         self.store.add(name, bytes)
     }
@@ -32,9 +32,17 @@ impl NotedStore {
         self.store.file(name)
     }
 
-    /// The names of the files that were written, in order.
-    pub fn names(&self) -> &[String] {
-        self.names.as_slice()
+    /// The changes that were made, as `wrote out/b_reg_top.sv`.
+    pub fn changes(&self) -> &[String] {
+        self.changes.as_slice()
+    }
+
+    fn note(&mut self, change: &str, name: &str) -> Result<(), Memory>
+        ensures { self.new.store ≡ self.old.store }
+    {
+        let note = format!(in self.alloc; "{change} {name}")?;
+        self.changes.push(note)?;
+        Ok(())
     }
 }
 
@@ -58,8 +66,7 @@ impl Store for NotedStore {
         ensures cause { HasCause (IsErrOf result StoreFault.Failed) self.old.store.changes.faults self.new.store.changes.faults }
     {
         self.store.write(name, bytes)?;
-        let name = String::from_str(self.alloc, name)?;
-        self.names.push(name).map_err(AllocError::from)?;
+        self.note("wrote", name)?;
         Ok(())
     }
 
@@ -67,6 +74,8 @@ impl Store for NotedStore {
         ensures reads { self.new.store.reads.faults ≡ self.old.store.reads.faults }
         ensures cause { HasCause (IsErrOf result StoreFault.Failed) self.old.store.changes.faults self.new.store.changes.faults }
     {
-        self.store.remove(name)
+        self.store.remove(name)?;
+        self.note("removed", name)?;
+        Ok(())
     }
 }

@@ -100,12 +100,12 @@ fn add_stream(alloc: Global, text: &mut String, name: &str, bytes: &[u8]) -> Res
     Ok(())
 }
 
-/// The status, the files that were written, and what stands on the streams.
+/// The status, the changes of files, and what stands on the streams.
 pub fn spelled(alloc: Global, ran: &Ran) -> Result<String, Memory> {
     let status = ran.status;
     let mut text = format!(in alloc; "status {status}")?;
-    for name in ran.store.names() {
-        write!(&mut text, "\nwrote {name}")?;
+    for change in ran.store.changes() {
+        write!(&mut text, "\n{change}")?;
     }
     add_stream(alloc, &mut text, "output", ran.out.bytes())?;
     add_stream(alloc, &mut text, "error", ran.err.bytes())?;
@@ -120,7 +120,7 @@ pub fn first_fault<R: Threads + Sync>(
 ) -> Result<String, Memory> {
     let ran = ran_over(rt, alloc, REGTOOL, "b.hjson", bytes)?;
     let told = String::from_utf8_lossy(alloc, ran.err.bytes())?;
-    let is_quiet = ran.out.bytes().is_empty() && ran.store.names().is_empty();
+    let is_quiet = ran.out.bytes().is_empty() && ran.store.changes().is_empty();
     match told.strip_suffix('\n') {
         Some(line) if ran.status == 1 && is_quiet => Ok(String::from_str(alloc, line)?),
         _ => spelled(alloc, &ran),

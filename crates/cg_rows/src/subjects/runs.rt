@@ -1,4 +1,4 @@
-//! Whole runs: the status, the names of the files that are written, and what stands on the streams.
+//! Whole runs: the status, the changes of files, and what stands on the streams.
 
 use crate::subjects::noted::NotedStore;
 use crate::subjects::running::{ran_on, spelled};
