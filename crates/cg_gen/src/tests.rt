@@ -1,8 +1,4 @@
 //! Runs over memory: what is written and printed, and the status.
 
-mod blocks;
-mod faults;
-mod headers;
+mod laid;
 mod running;
-mod texts;
-mod words;

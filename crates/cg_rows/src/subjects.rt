@@ -4,73 +4,58 @@ use cg_base::Memory;
 use std::alloc::Global;
 use std::thread::Threads;
 
-mod completed;
-mod headers;
-mod laying;
-mod modules;
+mod entry_faults;
+mod first_faults;
+mod noted;
 mod numbers;
-mod printed;
+mod running;
+mod runs;
+mod texts;
 
 /// What the rows of a table are about.
 #[derive(Clone, Copy)]
 pub enum Subject {
     Numbers,
-    Completed,
-    Printed,
-    Repeats,
-    Modules,
-    ModuleLines,
-    HeadersRead,
-    HeaderValues,
-    Headers,
+    FirstFaults,
+    EntryFaults,
+    Runs,
+    Texts,
 }
 
 impl Subject {
     /// All subjects, lowest crate first.
-    pub const ALL: [Subject; 9] = [
+    pub const ALL: [Subject; 5] = [
         Subject::Numbers,
-        Subject::Completed,
-        Subject::Printed,
-        Subject::Repeats,
-        Subject::Modules,
-        Subject::ModuleLines,
-        Subject::HeadersRead,
-        Subject::HeaderValues,
-        Subject::Headers,
+        Subject::FirstFaults,
+        Subject::EntryFaults,
+        Subject::Runs,
+        Subject::Texts,
     ];
 
     /// The file of the subject's table.
     pub fn file(self) -> &'static str {
         match self {
             Subject::Numbers => "numbers.txt",
-            Subject::Completed => "completed.txt",
-            Subject::Printed => "printed.txt",
-            Subject::Repeats => "repeats.txt",
-            Subject::Modules => "modules.txt",
-            Subject::ModuleLines => "module_lines.txt",
-            Subject::HeadersRead => "headers_read.txt",
-            Subject::HeaderValues => "header_values.txt",
-            Subject::Headers => "headers.txt",
+            Subject::FirstFaults => "first_faults.txt",
+            Subject::EntryFaults => "entry_faults.txt",
+            Subject::Runs => "runs.txt",
+            Subject::Texts => "texts.txt",
         }
     }
 
     /// What comes of the text that a row gives.
     pub fn answer<R: Threads + Sync>(
         self,
-        _rt: &R,
+        rt: &R,
         alloc: Global,
         given: &str,
     ) -> Result<String, Memory> {
         match self {
             Subject::Numbers => numbers::answer(alloc, given),
-            Subject::Completed => completed::answer(alloc, given),
-            Subject::Printed => printed::answer(alloc, given),
-            Subject::Repeats => printed::repeat(alloc, given),
-            Subject::Modules => modules::answer(alloc, given),
-            Subject::ModuleLines => modules::lines(alloc, given),
-            Subject::HeadersRead => headers::constants(alloc, given),
-            Subject::HeaderValues => headers::value(alloc, given),
-            Subject::Headers => headers::answer(alloc, given),
+            Subject::FirstFaults => first_faults::answer(rt, alloc, given),
+            Subject::EntryFaults => entry_faults::answer(rt, alloc, given),
+            Subject::Runs => runs::answer(rt, alloc, given),
+            Subject::Texts => texts::answer(rt, alloc, given),
         }
     }
 }

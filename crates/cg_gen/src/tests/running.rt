@@ -86,24 +86,3 @@ pub fn store_with(
     store.add(name, text.as_bytes())?;
     Ok(store)
 }
-
-/// What a run with this flag over the description `uart.hjson` leaves under this name; where it fails, what it tells.
-pub fn file_after<R: Threads + Sync>(
-    rt: &R,
-    alloc: Global,
-    description: &str,
-    flag: &str,
-    name: &str,
-) -> Result<String, Fail> {
-    let mut store = store_with(alloc, "uart.hjson", description, &[], &[])?;
-    let words = ["regtool", flag, "-t", "out", "uart.hjson"];
-    let ran = ran_on(rt, alloc, &words, &mut store, &[])?;
-    if ran.status != 0 {
-        return Ok(String::from_utf8_lossy(alloc, ran.err.bytes())?);
-    }
-    let bytes = match store.file(name) {
-        Some(bytes) => bytes,
-        None => &[],
-    };
-    Ok(String::from_utf8_lossy(alloc, bytes)?)
-}

@@ -1,0 +1,26 @@
+//! Files with a first fault, and the line that tells it.
+
+use crate::subjects::running::first_fault;
+use cg_base::Memory;
+use std::alloc::Global;
+use std::thread::Threads;
+
+/// The bytes of a text in which `‹ff›` is a byte by its digits.
+fn bytes_of(alloc: Global, text: &str) -> Result<Vec<u8>, Memory> {
+    let mut bytes = Vec::new(alloc);
+    for piece in text.split('‹') {
+        let Some((digits, rest)) = piece.split_once('›') else {
+            bytes.extend_from_slice(piece.as_bytes())?;
+            continue;
+        };
+        bytes.push(u8::from_str_radix(digits, 16).unwrap_or(0))?;
+        bytes.extend_from_slice(rest.as_bytes())?;
+    }
+    Ok(bytes)
+}
+
+/// A row gives the file `b.hjson`.
+pub fn answer<R: Threads + Sync>(rt: &R, alloc: Global, given: &str) -> Result<String, Memory> {
+    let bytes = bytes_of(alloc, given)?;
+    first_fault(rt, alloc, &bytes)
+}
