@@ -29,6 +29,3 @@ pub use ending::Ending;
 pub use stop::Stop;
 pub use top::run;
 pub use words::Asked;
-
-#[cfg(test)]
-mod tests;

@@ -1,6 +1,6 @@
 //! Completed descriptions of blocks.
 
-use super::laying::{MOST, no_block};
+use super::stages::{LIMIT, Stop};
 use cg_base::Memory;
 use cg_blkread::block;
 use cg_done::done_block;
@@ -10,15 +10,16 @@ use std::alloc::Global;
 
 /// The completed description of a block.
 pub fn answer(alloc: Global, given: &str) -> Result<String, Memory> {
-    if given.len() > MOST {
+    if given.len() > LIMIT {
         return Err(Memory);
     }
     documents_are_sayable();
     let Ok(tree) = read(alloc, given) else {
-        return no_block(alloc);
+        return Stop::NoDocument.line(alloc);
     };
-    let Ok(block) = block(alloc, &tree, 0) else {
-        return no_block(alloc);
+    let block = match block(alloc, &tree, 0) {
+        Ok(block) => block,
+        Err(fault) => return Stop::Refused(fault).line(alloc),
     };
     let text = done_block(alloc, &tree, &block)?;
     Ok(text.into_string())

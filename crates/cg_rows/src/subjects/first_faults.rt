@@ -19,7 +19,14 @@ fn bytes_of(alloc: Global, text: &str) -> Result<Vec<u8>, Memory> {
     Ok(bytes)
 }
 
-/// A row gives the file `b.hjson`.
+/// A row gives the text of the file `b.hjson`; the line is told without the file's name.
+pub fn line<R: Threads + Sync>(rt: &R, alloc: Global, given: &str) -> Result<String, Memory> {
+    let told = first_fault(rt, alloc, given.as_bytes())?;
+    let line = told.strip_prefix("b.hjson:").unwrap_or(told.as_str());
+    Ok(String::from_str(alloc, line)?)
+}
+
+/// A row gives the file `b.hjson`, and the line is told with its name.
 pub fn answer<R: Threads + Sync>(rt: &R, alloc: Global, given: &str) -> Result<String, Memory> {
     let bytes = bytes_of(alloc, given)?;
     first_fault(rt, alloc, &bytes)

@@ -1,14 +1,15 @@
 //! C headers: those of blocks, and what is read of texts.
 
-use super::laying::{MOST, laid, no_block};
+use super::stages::{LIMIT, laid};
 use cg_base::Memory;
 use cg_chdr::{Constant, HdrClash, HdrFault, block_header, read};
 use std::alloc::Global;
 
 /// The header of a block, or the name that clashes.
 pub fn answer(alloc: Global, given: &str) -> Result<String, Memory> {
-    let Some(block) = laid(alloc, given)? else {
-        return no_block(alloc);
+    let block = match laid(alloc, given) {
+        Ok(block) => block,
+        Err(stop) => return stop.line(alloc),
     };
     match block_header(alloc, &block) {
         Ok(text) => Ok(text.into_string()),
@@ -35,7 +36,7 @@ fn shown(alloc: Global, constants: &[Constant]) -> Result<String, Memory> {
 
 /// The constants of a text, or its first line without a form.
 pub fn constants(alloc: Global, given: &str) -> Result<String, Memory> {
-    if given.len() > MOST {
+    if given.len() > LIMIT {
         return Err(Memory);
     }
     match read(alloc, given) {

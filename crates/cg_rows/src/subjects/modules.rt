@@ -3,7 +3,7 @@
 ghost use Rattle.std.specs.Prelude.{◌<◌, length};
 ghost use Rattle.cg_hdrspec.specs.Laws.{IsNamed};
 
-use super::laying::{laid, no_block};
+use super::stages::laid;
 use cg_base::{Memory, Text};
 use cg_desc::LaidBlock;
 use cg_regspec::register_module_means;
@@ -42,8 +42,9 @@ fn module_texts(alloc: Global, block: &LaidBlock) -> Result<String, SvRegFault>
 
 /// The texts of the modules of a block, or the name that clashes.
 pub fn answer(alloc: Global, given: &str) -> Result<String, Memory> {
-    let Some(block) = laid(alloc, given)? else {
-        return no_block(alloc);
+    let block = match laid(alloc, given) {
+        Ok(block) => block,
+        Err(stop) => return stop.line(alloc),
     };
     match module_texts(alloc, &block) {
         Ok(texts) => Ok(texts),

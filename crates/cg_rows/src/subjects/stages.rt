@@ -2,6 +2,7 @@
 
 ghost use Rattle.std.specs.Prelude.{IfOk};
 ghost use Rattle.cg_desc.specs.Valid.{IsValidBlock};
+ghost use Rattle.cg_hdrspec.specs.Laws.{IsNamed};
 
 use cg_base::{List, Memory};
 use cg_blkread::block;
@@ -11,8 +12,8 @@ use cg_hjson::{HjsonFault, Tree, read};
 use cg_layout::lay;
 use std::alloc::Global;
 
-// No row's text is longer.
-const LIMIT: usize = 4_000_000;
+/// How many bytes the text of a row has at most.
+pub const LIMIT: usize = 4_000_000;
 
 /// Why there is nothing to show of a text.
 #[derive(Drop)]
@@ -72,7 +73,9 @@ pub fn expanded(alloc: Global, document: &str) -> Result<List<FaceItems>, Stop> 
 }
 
 /// The block with its rows at their offsets.
-pub fn laid(alloc: Global, document: &str) -> Result<LaidBlock, Stop> {
+pub fn laid(alloc: Global, document: &str) -> Result<LaidBlock, Stop>
+    ensures { IfOk result (λ laid. IsNamed laid) }
+{
     let described = described(alloc, document)?;
     let items = expand(alloc, &described)?;
     let laid = lay(alloc, described, items)?;
