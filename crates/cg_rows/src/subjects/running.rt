@@ -112,7 +112,8 @@ pub fn spelled(alloc: Global, ran: &Ran) -> Result<String, Memory> {
     Ok(text)
 }
 
-/// The line that tells the first fault of the file `b.hjson`, where the run does no more than tell it and ends with 1; else all that it does.
+/// The line that tells the first fault of the file `b.hjson`, where the run does no more than tell it and ends with 1; else all that
+/// it does.
 pub fn first_fault<R: Threads + Sync>(
     rt: &R,
     alloc: Global,
