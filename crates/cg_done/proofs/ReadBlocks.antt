@@ -1,8 +1,6 @@
 -- What a block that was read is: an object with each key once, whose integers and strings are those of documents.
-use Rattle.std.proofs.Common.{◌≡◌, ℕ, ◌^◌, ℤ, pos, negsuc, Bool, true, false, cond, ◌||◌, List, [], ◌∷◌, ◌++◌, Some, inl, refl, sym, ap, subst, arith}
+use Rattle.std.proofs.Common.{◌≡◌, ℕ, ◌^◌, ℤ, pos, negsuc, Bool, true, false, List, [], ◌∷◌, Some, inl, refl, sym, ap, subst, arith}
 use Rattle.std.specs.Prelude.{codes, nat_lt}
-use Rattle.std.specs.List.{AllByRecursion, IsDistinct}
-use Rattle.std.specs.Str.{bytes_eq}
 use Rattle.std.proofs.lemmas.Bool.Decides.{nat_tests}
 use Rattle.serde_json.specs.Data.{Data, null, boolean, number, string, array, object}
 use Rattle.cg_docspec.specs.Place.{Place}
@@ -11,13 +9,14 @@ use Rattle.cg_svspec.specs.Characters.{IsName}
 use Rattle.cg_finding.specs.Finding.{Finding, In, finding, of_least_phase}
 use Rattle.cg_desc.specs.declared.block.BlockDesc.{BlockDesc}
 use Rattle.cg_hjson.specs.Integers.{in_range}
-use Rattle.cg_hjson.specs.Json.{Everywhere, HasKeysOnce, HasRange, InMembers, InTrees, IntegersFit, KeysDiffer, WithinKind, json_kind, json_of, keys}
+use Rattle.cg_hjson.specs.Json.{Everywhere, HasRange, InMembers, InTrees, IntegersFit, KeysDiffer, WithinKind, json_kind, json_of, keys}
 use Rattle.cg_hjson.specs.Views.{place_of, tree_of}
 use Rattle.cg_hjson.specs.declared.tree.Kind.{out-Kind}
 use Rattle.cg_hjson.specs.declared.tree.Kind.TheOpen as level
 use Rattle.cg_hjson.specs.declared.tree.Member.{Member}
 use Rattle.cg_hjson.specs.declared.tree.Tree.{Tree}
-use Rattle.cg_keys.specs.Duplicates.{at_of, duplicate_faults, is_key_among, kind_repeats, members_repeats, repeats, tree_repeats, trees_repeats}
+use Rattle.cg_keys.specs.Duplicates.{duplicate_faults}
+use Rattle.cg_keys.proofs.KeysOnce.{keys_differ}
 use Rattle.cg_keys.specs.Lookups.{text_at}
 use Rattle.cg_keys.specs.Table.{value_at}
 use Rattle.cg_keys.specs.Values.{Level, members_of, object_level, or_empty}
@@ -25,7 +24,7 @@ use Rattle.cg_blkread.specs.Described.{block_of}
 use Rattle.cg_blkread.specs.Keys.{key_faults}
 use Rattle.cg_blkread.specs.Raw.{text_or_empty}
 use Rattle.cg_blkread.specs.Reads.{Violates, value_faults}
-use Rattle.cg_blkread.proofs.Sound.Empty.{empty_parts, empty_when}
+use Rattle.cg_blkread.proofs.Sound.Empty.{empty_parts}
 use Rattle.cg_blkread.proofs.Sound.Keys.{block_name}
 use Rattle.cg_jsonspec.specs.Layout.{layout_text}
 use Rattle.cg_jsonspec.specs.ReadsBack.{ReadsBack}
@@ -51,68 +50,10 @@ keys_good t h = none_first (key_faults t) (value_faults t) h
 
 -- ---- keys
 
--- no key is among others
-abbrev Apart : List (List ℕ) → List (List ℕ) → Type 0
-Apart before = AllByRecursion (λ k. is_key_among before k ≡ false)
-
--- neither holds
-either_false : (a b : Bool) → (a || b) ≡ false → (a ≡ false) × (b ≡ false)
-either_false true b h = cc
-either_false false b h = (refl, h)
-
--- a key that is not among two lists
-among_more : (a b : List (List ℕ)) (key : List ℕ) → is_key_among (a ++ b) key ≡ false → (is_key_among a key ≡ false) × (is_key_among b key ≡ false)
-among_more [] b key h = (refl, h)
-among_more (k ∷ a) b key h =
-    let first = either_false (bytes_eq k key) (is_key_among (a ++ b) key) h in
-    let more = among_more a b key first.1 in
-    (rw (first.0, more.0) refl, more.1)
-
--- keys apart from others and from one more
-apart_from : (before : List (List ℕ)) (k : List ℕ) (ks : List (List ℕ)) → Apart (before ++ k ∷ []) ks → Apart before ks × AllByRecursion (λ y. bytes_eq k y ≡ false) ks
-apart_from before k [] h = (tt, tt)
-apart_from before k (y ∷ ks) h =
-    let here = among_more before (k ∷ []) y h.0 in
-    let more = apart_from before k ks h.1 in
-    ((here.0, more.0), ((either_false (bytes_eq k y) false here.1).0, more.1))
-
--- keys that do not repeat
-keys_apart : (before : List (List ℕ)) (ms : document.Members) → repeats before ms ≡ [] → Apart before (keys ms) × IsDistinct bytes_eq (keys ms)
-unfolding repeats IsDistinct
-keys_apart before document.no_members h = (tt, tt)
-keys_apart before (document.member_and key at value ms) h =
-    let parts = empty_parts (cond (is_key_among before key) (finding 2 20 (at_of at) key ∷ []) []) (repeats (before ++ key ∷ []) ms) h in
-    let more = keys_apart (before ++ key ∷ []) ms parts.1 in
-    let apart = apart_from before key (keys ms) more.0 in
-    ((empty_when (is_key_among before key) (finding 2 20 (at_of at) key) parts.0, apart.0), (apart.1, more.1))
-
-mutual
-  unfolding tree_repeats kind_repeats trees_repeats members_repeats Everywhere WithinKind InTrees InMembers
-
-  -- a tree in which no key repeats
-  tree_once : (t : document.Tree) → tree_repeats t ≡ [] → KeysDiffer t
-  tree_once (document.tree kind at) h = kind_once kind h
-
-  kind_once : (k : document.Kind) → kind_repeats k ≡ [] → HasKeysOnce k × WithinKind HasKeysOnce k
-  kind_once document.null h = (tt, tt)
-  kind_once (document.boolean b) h = (tt, tt)
-  kind_once (document.integer n) h = (tt, tt)
-  kind_once (document.string u) h = (tt, tt)
-  kind_once (document.array ts) h = (tt, trees_once ts h)
-  kind_once (document.object ms) h = let parts = empty_parts (repeats [] ms) (members_repeats ms) h in ((keys_apart [] ms parts.0).1, members_once ms parts.1)
-
-  trees_once : (ts : document.Trees) → trees_repeats ts ≡ [] → InTrees HasKeysOnce ts
-  trees_once document.no_trees h = tt
-  trees_once (document.tree_and t ts) h = let parts = empty_parts (tree_repeats t) (trees_repeats ts) h in (tree_once t parts.0, trees_once ts parts.1)
-
-  members_once : (ms : document.Members) → members_repeats ms ≡ [] → InMembers HasKeysOnce ms
-  members_once document.no_members h = tt
-  members_once (document.member_and key at t ms) h = let parts = empty_parts (tree_repeats t) (members_repeats ms) h in (tree_once t parts.0, members_once ms parts.1)
-
 -- no key of a good block repeats
 keys_once : (t : Tree) → key_faults t ≡ [] → KeysDiffer (tree_of t)
-unfolding key_faults duplicate_faults
-keys_once t h = tree_once (tree_of t) (empty_parts (duplicate_faults t) _ h).0
+unfolding key_faults
+keys_once t h = keys_differ t (empty_parts (duplicate_faults t) _ h).0
 
 -- ---- integers
 

@@ -12,7 +12,7 @@ use cg_hjson::{Tree, to_json};
 use cg_keys::first_duplicate;
 use std::alloc::Global;
 
-#[tactic(auto, using(crate::proofs::KeysOnce::keys_once))]
+#[tactic(auto, using(cg_keys::proofs::KeysOnce::keys_once))]
 fn json_text(alloc: Global, tree: &Tree) -> Result<String, Memory>
     requires keys { first_of (duplicate_faults tree.now) ≡ None }
     requires integers { IntegersFit (tree_of tree.now) }

@@ -80,6 +80,10 @@ mutual
   members_once document.no_members h = tt
   members_once (document.member_and key at t ms) h = let parts = empty_parts (tree_repeats t) (members_repeats ms) h in (tree_once t parts.0, members_once ms parts.1)
 
-pub keys_once : (t : Tree) → first_of (duplicate_faults t) ≡ None → KeysDiffer (tree_of t)
+-- where no key stands twice, each object's keys differ
+pub keys_differ : (t : Tree) → duplicate_faults t ≡ [] → KeysDiffer (tree_of t)
 unfolding duplicate_faults
-keys_once t h = tree_once (tree_of t) (none_is_empty (duplicate_faults t) h)
+keys_differ t h = tree_once (tree_of t) h
+
+pub keys_once : (t : Tree) → first_of (duplicate_faults t) ≡ None → KeysDiffer (tree_of t)
+keys_once t h = keys_differ t (none_is_empty (duplicate_faults t) h)
