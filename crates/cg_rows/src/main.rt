@@ -1,8 +1,8 @@
 //! The program that tries tables of rows: what is given, and what was worked out by hand for it from the rules.
 //!
-//! Each file of `data/` is the table of one subject, `table` says how it is written. The program writes for each subject how many
-//! rows it has, and each row that has another answer than the one that is wanted; so `stdout` fixes that there are none, and that no
-//! row is lost. What a contract says for every input needs no row; rows show that the contracts mean what the formats mean, by
+//! Each file of `data/` is the table of one subject; `table` says how it is written. The program writes for each subject how many
+//! rows it has, and each row that has another answer than the one that is wanted. So the file `stdout` fixes that there is none, and
+//! that no row is lost. What a contract says for every input needs no row; rows show that the contracts mean what the formats mean, by
 //! expected texts that no part of this repository has written.
 #![tactic(auto)]
 

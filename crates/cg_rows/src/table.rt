@@ -10,9 +10,9 @@
 //! ===
 //! ```
 //!
-//! A text that ends in a line feed ends in an empty line there. Between rows, every other line says nothing. In what is given and what is wanted a picture of
-//! a control character, as `␍`, stands for that character, `␠` for a space, `⟪0xFEFF⟫` for the character with that number, and
-//! `⟪text×3⟫` for three texts, each with its number, from 0, in place of each `№`.
+//! A text that ends in a line feed ends in an empty line there. Between rows, every other line says nothing. In what is given and
+//! what is wanted a picture of a control character, as `␍`, stands for that character, `␠` for a space, `⟪0xFEFF⟫` for the
+//! character with that number, and `⟪text×3⟫` for three texts, each with its number, from 0, in place of each `№`.
 
 use cg_base::{Memory, parse_int};
 use std::alloc::Global;
