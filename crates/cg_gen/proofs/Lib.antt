@@ -11,4 +11,3 @@ pub mod Kept
 pub mod Valid
 pub mod Again
 pub mod Meanings
-pub mod Examples

@@ -3,7 +3,8 @@
 //! Each file of `data/` is the table of one subject; `table` says how it is written. The program writes for each subject how many
 //! rows it has, and each row that has another answer than the one that is wanted. So the file `stdout` fixes that there is none, and
 //! that no row is lost. What a contract says for every input needs no row; rows show that the contracts mean what the formats mean, by
-//! expected texts that no part of this repository has written.
+//! expected texts that no part of this repository has written. Where no program answers, as of a register block's step, cases are
+//! computed by the prover, in `proofs/Examples`.
 #![tactic(auto)]
 
 mod subjects;

@@ -3,7 +3,7 @@
 ghost use Rattle.std.specs.Prelude.{◌≡◌, ◌++◌, ◌∷◌, [], IfOk, OnOk, map};
 ghost use Rattle.cg_svspec.specs.Tree.{pick};
 ghost use Rattle.cg_sv.specs.Views.{port_of, parameter_of, connection_of, entry_of, expression_of, module_of};
-ghost use Rattle.cg_rows.specs.Example.{example, example_ports, example_some, example_condition, example_high, example_kept, example_connections, example_parameters, example_flop, example_plain, example_entries};
+ghost use Rattle.cg_rows.specs.EveryForm.{example, example_ports, example_some, example_condition, example_high, example_kept, example_connections, example_parameters, example_flop, example_plain, example_entries};
 
 use cg_base::{List, Memory, Text};
 use cg_sv::{Conn, Entry, Expr, Module, Param, Port, SvRegFault, make, names_differ, print};

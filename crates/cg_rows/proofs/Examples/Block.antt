@@ -15,7 +15,7 @@ use Rattle.cg_desc.specs.declared.block.Item.TheVariants.{Reg}
 abbrev data_name : List ℕ
 data_name = codes "DATA"
 
-abbrev nowhere : At
+abbrev pub nowhere : At
 nowhere = record { byte = 0; line = 0; column = 0 }
 
 -- a field from bit 0 on, which software reads and writes and hardware sees
@@ -26,7 +26,7 @@ abbrev register_of : FieldDesc → RegDesc
 register_of f = record { name = data_name; fields = f ∷ []; regwen = None; regwen_at = nowhere; hwext = false; hwqe = false; hwre = false; at = nowhere }
 
 -- the register alone, at offset 0
-abbrev face_of : RegDesc → LaidFace
+abbrev pub face_of : RegDesc → LaidFace
 face_of r = record { name = None; rows = record { first = 0; words = 1; item = Reg r } ∷ []; size = 4 }
 
 abbrev whole : FieldDesc
@@ -39,17 +39,17 @@ face = face_of (register_of whole)
 abbrev low_bytes : Bits
 low_bytes = true ∷ true ∷ true ∷ false ∷ []
 
-abbrev every_byte : Bits
+abbrev pub every_byte : Bits
 every_byte = true ∷ true ∷ true ∷ true ∷ []
 
-abbrev access : AccessKind → ℕ → ℕ → Bits → Access
+abbrev pub access : AccessKind → ℕ → ℕ → Bits → Access
 access kind address number strobes = record { kind = kind; address = address; data_in = bits 32 number; strobes = strobes }
 
 -- the one field holds this number
-abbrev holding : ℕ → Fields
+abbrev pub holding : ℕ → Fields
 holding number = λ r f. bits 32 number
 
-no_hardware : Hardware
+abbrev pub no_hardware : Hardware
 no_hardware = record { d = λ r f. []; de = λ r f. false; read_data = λ w. [] }
 
 -- offsets 0 to 3 are the register, and offset 4 is an error
@@ -101,7 +101,7 @@ partial_value = refl
 abbrev ten_bits : RegDesc
 ten_bits = register_of (field_up_to 9)
 
-abbrev low_byte : Bits
+abbrev pub low_byte : Bits
 low_byte = true ∷ false ∷ false ∷ false ∷ []
 
 abbrev two_bytes : Bits

@@ -1,0 +1,4 @@
+-- Cases of definitions, computed.
+pub mod Block
+pub mod GatesAndWindows
+pub mod Values
