@@ -6,10 +6,10 @@ use Rattle.serde_json.specs.Data.{Data, null, boolean, number, string, array, ob
 use Rattle.cg_docspec.specs.Place.{Place}
 use Rattle.cg_docspec.specs.Tree as document
 use Rattle.cg_svspec.specs.Characters.{IsName}
-use Rattle.cg_finding.specs.Finding.{Finding, In, finding, of_least_phase}
+use Rattle.cg_finding.specs.Finding.{Finding, In, of_least_phase}
 use Rattle.cg_desc.specs.declared.block.BlockDesc.{BlockDesc}
 use Rattle.cg_hjson.specs.Integers.{in_range}
-use Rattle.cg_hjson.specs.Json.{Everywhere, HasRange, InMembers, InTrees, IntegersFit, KeysDiffer, WithinKind, json_kind, json_of, keys}
+use Rattle.cg_hjson.specs.Json.{Everywhere, HasRange, InMembers, InTrees, IntegersFit, KeysDiffer, WithinKind, json_kind, json_of}
 use Rattle.cg_hjson.specs.Views.{place_of, tree_of}
 use Rattle.cg_hjson.specs.declared.tree.Kind.{out-Kind}
 use Rattle.cg_hjson.specs.declared.tree.Kind.TheOpen as level

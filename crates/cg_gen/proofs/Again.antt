@@ -2,7 +2,6 @@
 use Rattle.std.proofs.Common.{◌≡◌, ℕ, ◌≤◌, List, [], ◌∷◌, ◌++◌, map, length, codes, Some, None, refl, sym, ap, ◌∙◌, subst, chars}
 use Rattle.cg_docspec.specs.Depth.{Opener}
 use Rattle.cg_docspec.specs.Document.{Document}
-use Rattle.cg_docspec.specs.Tree as document
 use Rattle.cg_svspec.specs.Layout.{module_text}
 use Rattle.cg_svspec.specs.Names.{first_repeat}
 use Rattle.cg_svspec.specs.Tree.{Module}

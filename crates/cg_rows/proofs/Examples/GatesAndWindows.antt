@@ -1,10 +1,10 @@
 -- The block's step at work, with a gate, windows and registers that are read or written alone: LOCK at 0, CFG at 4 that LOCK gates, and
 -- from 8 on a window BUF of two words.
 use Rattle.std.proofs.Common.{◌≡◌, ℕ, Bool, true, false, List, [], ◌∷◌, Option, Some, None, refl, codes}
-use Rattle.cg_svspec.specs.Bits.{Bits, bits, zeros}
+use Rattle.cg_svspec.specs.Bits.{bits, zeros}
 use Rattle.cg_desc.specs.AccessTable.{after_hardware, next_value}
-use Rattle.cg_desc.specs.Target.{Target, target_at, register, word, error}
-use Rattle.cg_desc.specs.BlockStep.{Access, AccessKind, idle, read, write, Hardware, is_error, takes_write, takes_read, word_at}
+use Rattle.cg_desc.specs.Target.{target_at, register, word, error}
+use Rattle.cg_desc.specs.BlockStep.{idle, read, write, Hardware, is_error, takes_write, takes_read, word_at}
 use Rattle.cg_desc.specs.declared.block.SwAccess.{SwAccess}
 use Rattle.cg_desc.specs.declared.block.SwAccess.TheVariants.{Ro, Rc, Rw, Rw1c, Wo}
 use Rattle.cg_desc.specs.declared.block.HwAccess.TheVariants.{Hro}

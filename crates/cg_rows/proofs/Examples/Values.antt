@@ -3,10 +3,10 @@ use Rattle.std.proofs.Common.{◌≡◌, ℕ, Bool, true, false, cond, List, [],
 use Rattle.cg_svspec.specs.Names.{Among}
 use Rattle.std.specs.Str.{bytes_eq}
 use Rattle.cg_svspec.specs.Bits.{Bits, bits}
-use Rattle.cg_svspec.specs.Tree.{Expression, net, cut, lit, cat, inv, any, and, or, equal, pick, none, more, Connection, Parameter, Entry, wire, drive, assign, inst, Module}
+use Rattle.cg_svspec.specs.Tree.{Expression, net, cut, lit, cat, inv, any, and, or, equal, pick, none, more, Entry, wire, drive, assign, inst, Module}
 use Rattle.cg_svspec.specs.Register.{input_port, output_port}
-use Rattle.cg_svspec.specs.Value.{Values, eval, Holds, InputHolds, Valuation, IsReset}
-use Rattle.cg_svspec.specs.WellFormed.{HasWidth, stated, WellFormed}
+use Rattle.cg_svspec.specs.Value.{Values, eval, Holds, Valuation, IsReset}
+use Rattle.cg_svspec.specs.WellFormed.{WellFormed}
 use Rattle.cg_sv.specs.Views.{connection, parameter}
 
 -- ---- expressions, where x has the 8 bits of 0x5a

@@ -1,4 +1,4 @@
-use Rattle.std.proofs.Common.{◌≤◌, ap, ◌∙◌, sym, subst, insert, length}
+use Rattle.std.proofs.Common.{◌≤◌, ap, ◌∙◌, sym, subst, length}
 use Rattle.cg_gen.specs.Texts.{place_in}
 use Rattle.cg_gen.proofs.Puts.{inserted, place-within}
 use Rattle.cg_gen.proofs.texts.put_change.Goals as goal

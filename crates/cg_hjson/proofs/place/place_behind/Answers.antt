@@ -1,6 +1,6 @@
 use Rattle.std.proofs.Common.{sym, ◌∙◌, ap, arith}
 use Rattle.std.proofs.lemmas.Str.{len_utf8_bounds}
-use Rattle.cg_docspec.specs.Place.{next_place, place_after}
+use Rattle.cg_docspec.specs.Place.{place_after}
 use Rattle.cg_hjson.specs.Views.{place_of}
 use Rattle.cg_hjson.proofs.FirstCharacter.{first_character, no_characters}
 use Rattle.cg_hjson.proofs.OneStep.{next_bounds}
