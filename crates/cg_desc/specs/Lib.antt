@@ -6,5 +6,6 @@ pub mod Laid
 pub mod Items
 pub mod Offsets
 pub mod Valid
+pub mod Crossbar
 pub mod Faults
 pub mod FaultText

@@ -11,6 +11,7 @@
 
 mod address;
 mod block;
+mod crossbar;
 mod fault;
 mod fault_line;
 mod place;
@@ -21,6 +22,7 @@ pub use block::{
     IoDesc, IoDir, Item, LaidBlock, LaidFace, LaidRow, MultiDesc, RegDesc, SwAccess, WindowDesc,
     Written,
 };
+pub use crossbar::{NodeDesc, NodeRanges, Range, XbarDesc};
 pub use fault::{DescFault, Fault, faults_are_ordered};
 pub use fault_line::fault_text;
 pub use place::At;

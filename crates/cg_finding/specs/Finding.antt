@@ -3,6 +3,7 @@ use Rattle.std.specs.Prelude.{ℕ, ◌≡◌, cond, List, [], ◌∷◌, ◌++�
 use Rattle.std.specs.Ordering.{nat_cmp, then_cmp, on, is_gt}
 use Rattle.std.specs.declared.cmp.Ordering.{Ordering}
 use Rattle.std.specs.Cmp.Lexicographic.{slice_cmp}
+pub use Rattle.cg_svspec.specs.Names.{Among}
 use Rattle.cg_desc.specs.Faults.{Before}
 use Rattle.cg_desc.specs.declared.fault.Fault.{Fault}
 use Rattle.cg_desc.specs.declared.place.At.{At}
@@ -47,13 +48,7 @@ first_of (f ∷ fs) = earlier (Some f) (first_of fs)
 
 -- the finding is one of these
 abbrev pub In : Finding → List Finding → Type 0
-In f [] = ⊥
-In f (g ∷ gs) = (f ≡ g) ⊎ In f gs
-
--- the item is one of these
-abbrev pub Among : {X : Type 0} → X → List X → Type 0
-Among x [] = ⊥
-Among x (y ∷ ys) = (x ≡ y) ⊎ Among x ys
+In f fs = Among f fs
 
 -- the finding is one of these, and as faults of one file none of these is before it
 pub record IsFirst (f : Finding) (fs : List Finding) : Type 0 where

@@ -33,10 +33,10 @@ first_repeat_after before (n ∷ ns) = if is_among before n then Some n else fir
 abbrev pub first_repeat : List (List ℕ) → Option (List ℕ)
 first_repeat names = first_repeat_after [] names
 
--- the name is a member of the list
-abbrev pub Among : List ℕ → List (List ℕ) → Type 0
-Among n [] = ⊥
-Among n (m ∷ ms) = (n ≡ m) ⊎ Among n ms
+-- the item is one of these
+abbrev pub Among : {X : Type 0} → X → List X → Type 0
+Among x [] = ⊥
+Among x (y ∷ ys) = (x ≡ y) ⊎ Among x ys
 
 -- no name stands twice
 abbrev pub Differ : List (List ℕ) → Type 0
