@@ -1,119 +1,56 @@
--- What the store holds after changes, of which those of one name are of the same bytes.
-use Rattle.std.proofs.Common.{◌≡◌, ◌≢◌, ◌⊎◌, ℕ, Bool, true, false, List, [], ◌∷◌, Some, refl, sym, ap, ◌∙◌, inl, inr, cond}
-use Rattle.std.proofs.lemmas.Bool.{false≢true}
-use Rattle.std.specs.FinMap as map
-use Rattle.std.specs.Ordering.{is_gt, nat_cmp}
+-- What the store holds after its outputs are written.
+use Rattle.std.proofs.Common.{◌≡◌, ◌≢◌, ◌⊎◌, ℕ, Bool, true, false, List, [], ◌∷◌, ◌++◌, map, Option, Some, refl, sym, ap, ◌∙◌, subst, inl, inr, cond}
+use Rattle.std.specs.FinMap as fin
+use Rattle.std.specs.Ordering.{nat_cmp}
 use Rattle.std.specs.Cmp.Lexicographic.{slice_cmp, nat_list_cmp_total}
-use Rattle.std.specs.Str.{bytes_eq}
-use Rattle.std.proofs.lemmas.Cmp.{eq_by_cmp_equiv}
-use Rattle.std.proofs.lemmas.Slice.Eq.{bytes_eq-Decides}
+use Rattle.std.specs.declared.cmp.Ordering.TheVariants.{Less, Equal}
+use Rattle.std.proofs.lemmas.Cmp.{eq_by_cmp_equiv, tied_itself}
+use Rattle.std.proofs.lemmas.List.{append_cancel_left}
 use Rattle.cg_base.specs.Outside.{Files, written_OnlyAt}
-use Rattle.cg_finding.specs.Finding.{Among}
-use Rattle.cg_gen.specs.declared.due.Change.{Change}
-use Rattle.cg_gen.specs.Run.{changed}
-use Rattle.cg_gen.specs.Texts.{put_change, put_changes}
+use Rattle.cg_svspec.specs.Names.{Among}
+use Rattle.cg_outputs.specs.declared.out_file.OutFile.{OutFile}
+use Rattle.cg_outputs.specs.Outputs.{Rises, NameBefore}
+use Rattle.cg_gen.specs.declared.deed.Stream.TheVariants.{Out}
+use Rattle.cg_gen.specs.declared.deed.Deed.TheVariants.{Say}
+use Rattle.cg_gen.specs.Deeds.{Contents, after_deeds}
+use Rattle.cg_gen.specs.Regtool.{stored_name}
+use Rattle.cg_gen.specs.Due.{write_of}
 
--- the files after these changes
-abbrev pub after : Files → List Change → Files
-after m [] = m
-after m (c ∷ cs) = after (map.insert m c.name c.bytes) cs
+-- the files after these outputs were written into a folder
+abbrev pub after : List ℕ → Files → List OutFile → Files
+after dir m [] = m
+after dir m (o ∷ os) = after dir (fin.insert m (stored_name dir o.name) o.bytes) os
 
-pub changed_is : (m : Files) (cs : List Change) → changed (Some m) cs ≡ Some (after m cs)
-changed_is m [] = refl
-changed_is m (c ∷ cs) = changed_is (map.insert m c.name c.bytes) cs
+pub written_are : (dir line : List ℕ) (m : Files) (os : List OutFile) (out err : Option (List ℕ))
+    → (after_deeds (map (write_of dir) os ++ (Say Out line ∷ [])) (record { files = Some m; out = out; err = err })).files ≡ Some (after dir m os)
+written_are dir line m [] out err = refl
+written_are dir line m (o ∷ os) out err = written_are dir line (fin.insert m (stored_name dir o.name) o.bytes) os out err
 
--- the changes of one name are of the same bytes
-abbrev pub Agree : List Change → Type 0
-Agree cs = (c d : Change) → Among c cs → Among d cs → c.name ≡ d.name → c.bytes ≡ d.bytes
+apart : (m : Files) (name bytes q : List ℕ) → q ≢ name → fin.get (fin.insert m name bytes) q ≡ fin.get m q
+apart m name bytes q differ = written_OnlyAt name bytes (Some m) (Some (fin.insert m name bytes)) refl q differ
 
--- a name that none of the changes has
-abbrev pub Untouched : List ℕ → List Change → Type 0
-Untouched q cs = (c : Change) → Among c cs → q ≢ c.name
+-- a name that none of the outputs has is as it was
+pub untouched : (dir : List ℕ) (m : Files) (os : List OutFile) (q : List ℕ) → ((o : OutFile) → Among o os → q ≢ stored_name dir o.name) → fin.get (after dir m os) q ≡ fin.get m q
+untouched dir m [] q none = refl
+untouched dir m (o ∷ os) q none =
+    untouched dir (fin.insert m (stored_name dir o.name) o.bytes) os q (λ p among. none p (inr among)) ∙ apart m (stored_name dir o.name) o.bytes q (none o (inl refl))
 
-apart : (m : Files) (c : Change) (q : List ℕ) → q ≢ c.name → map.get (map.insert m c.name c.bytes) q ≡ map.get m q
-apart m c q differ = written_OnlyAt c.name c.bytes (Some m) (Some (map.insert m c.name c.bytes)) refl q differ
+here : (m : Files) (name bytes : List ℕ) → fin.get (fin.insert m name bytes) name ≡ Some bytes
+here m name bytes =
+    fin.get-insert nat_list_cmp_total m name bytes name
+    ∙ ap (λ b. cond b (Some bytes) (fin.get m name)) ((eq_by_cmp_equiv nat_list_cmp_total).refl name)
 
-pub untouched : (m : Files) (cs : List Change) (q : List ℕ) → Untouched q cs → map.get (after m cs) q ≡ map.get m q
-untouched m [] q none = refl
-untouched m (c ∷ cs) q none = untouched (map.insert m c.name c.bytes) cs q (λ d in'. none d (inr in')) ∙ apart m c q (none c (inl refl))
+-- names in one folder differ where the names do
+stored_apart : (dir : List ℕ) (a b : OutFile) → NameBefore a b → stored_name dir a.name ≢ stored_name dir b.name
+stored_apart dir a b before same =
+    let names : a.name ≡ b.name = append_cancel_left (47 ∷ []) a.name b.name (append_cancel_left dir _ _ same) in
+    let bad : Less ≡ Equal = sym before ∙ ap (λ n. slice_cmp nat_cmp n b.name) names ∙ tied_itself nat_list_cmp_total b.name in
+    cc
 
-here : (m : Files) (c : Change) → map.get (map.insert m c.name c.bytes) c.name ≡ Some c.bytes
-here m c =
-    map.get-insert nat_list_cmp_total m c.name c.bytes c.name
-    ∙ ap (λ b. cond b (Some c.bytes) (map.get m c.name)) ((eq_by_cmp_equiv nat_list_cmp_total).refl c.name)
-
--- a change of this name
-pub record HasName (q : List ℕ) (cs : List Change) : Type 0 where
-  pub change : Change
-  pub among : Among change cs
-  pub same : change.name ≡ q
-
-seek_by : (q : List ℕ) (c : Change) (cs : List Change) (b : Bool) → bytes_eq q c.name ≡ b → HasName q cs ⊎ Untouched q cs → HasName q (c ∷ cs) ⊎ Untouched q (c ∷ cs)
-seek_by q c cs true e rest = inl (record { change = c; among = inl refl; same = sym ((bytes_eq-Decides q c.name).0 e) })
-seek_by q c cs false e (inl has) = inl (record { change = has.change; among = inr has.among; same = has.same })
-seek_by q c cs false e (inr none) = inr (λ d in'. elim in' [
-  | inl is ↦ λ same. false≢true (sym e ∙ (bytes_eq-Decides q c.name).1 (same ∙ ap (λ (x : Change). x.name) is))
-  | inr there ↦ none d there
-])
-
-seek : (q : List ℕ) (cs : List Change) → HasName q cs ⊎ Untouched q cs
-seek q [] = inr (λ c in'. absurd in')
-seek q (c ∷ cs) = seek_by q c cs _ refl (seek q cs)
-
--- each change's bytes are held
-kept_by : (m : Files) (d : Change) (cs : List Change) (c : Change) → Agree (d ∷ cs) → Among c (d ∷ cs)
-    → ((x : Change) → Among x cs → map.get (after (map.insert m d.name d.bytes) cs) x.name ≡ Some x.bytes)
-    → HasName c.name cs ⊎ Untouched c.name cs → map.get (after (map.insert m d.name d.bytes) cs) c.name ≡ Some c.bytes
-kept_by m d cs c agree among later (inl has) =
-    ap (map.get (after (map.insert m d.name d.bytes) cs)) (sym has.same) ∙ later has.change has.among ∙ ap Some (agree has.change c (inr has.among) among has.same)
-kept_by m d cs c agree (inl is) later (inr none) =
-    untouched (map.insert m d.name d.bytes) cs c.name none ∙ ap (λ (x : Change). map.get (map.insert m d.name d.bytes) x.name) is ∙ here m d ∙ ap (λ (x : Change). Some x.bytes) (sym is)
-kept_by m d cs c agree (inr there) later (inr none) = absurd (none c there refl)
-
-pub kept : (m : Files) (cs : List Change) (c : Change) → Agree cs → Among c cs → map.get (after m cs) c.name ≡ Some c.bytes
-kept m [] c agree among = absurd among
-kept m (d ∷ cs) c agree among =
-    kept_by m d cs c agree among (λ x in'. kept (map.insert m d.name d.bytes) cs x (λ y z one other. agree y z (inr one) (inr other)) in') (seek c.name cs)
-
--- ---- changes that are put in order are the same changes
-
-out_by : (x c d : Change) (cs more : List Change) (b : Bool) → (Among x more → (x ≡ c) ⊎ Among x cs) → Among x (cond b (c ∷ d ∷ cs) (d ∷ more)) → (x ≡ c) ⊎ Among x (d ∷ cs)
-out_by x c d cs more true rest (inl is) = inl is
-out_by x c d cs more true rest (inr there) = inr there
-out_by x c d cs more false rest (inl is) = inr (inl is)
-out_by x c d cs more false rest (inr there) = elim (rest there) [ inl is ↦ inl is | inr behind ↦ inr (inr behind) ]
-
-put_out : (x c : Change) (cs : List Change) → Among x (put_change c cs) → (x ≡ c) ⊎ Among x cs
-unfolding put_change
-put_out x c [] (inl is) = inl is
-put_out x c [] (inr none) = absurd none
-put_out x c (d ∷ cs) among = out_by x c d cs (put_change c cs) (is_gt (slice_cmp nat_cmp d.name c.name)) (put_out x c cs) among
-
-in_by : (x c d : Change) (cs more : List Change) (b : Bool) → ((x ≡ c) ⊎ Among x cs → Among x more) → (x ≡ c) ⊎ Among x (d ∷ cs) → Among x (cond b (c ∷ d ∷ cs) (d ∷ more))
-in_by x c d cs more true rest (inl is) = inl is
-in_by x c d cs more true rest (inr there) = inr there
-in_by x c d cs more false rest (inl is) = inr (rest (inl is))
-in_by x c d cs more false rest (inr (inl is)) = inl is
-in_by x c d cs more false rest (inr (inr there)) = inr (rest (inr there))
-
-put_in : (x c : Change) (cs : List Change) → (x ≡ c) ⊎ Among x cs → Among x (put_change c cs)
-unfolding put_change
-put_in x c [] (inl is) = inl is
-put_in x c [] (inr none) = absurd none
-put_in x c (d ∷ cs) one = in_by x c d cs (put_change c cs) (is_gt (slice_cmp nat_cmp d.name c.name)) (put_in x c cs) one
-
-pub puts_out : (x : Change) (cs ds : List Change) → Among x (put_changes cs ds) → Among x cs ⊎ Among x ds
-unfolding put_changes
-puts_out x cs [] among = inl among
-puts_out x cs (d ∷ ds) among = elim (puts_out x (put_change d cs) ds among) [
-  | inl put ↦ elim (put_out x d cs put) [ inl is ↦ inr (inl is) | inr there ↦ inl there ]
-  | inr behind ↦ inr (inr behind)
-]
-
-pub puts_in : (x : Change) (cs ds : List Change) → Among x cs ⊎ Among x ds → Among x (put_changes cs ds)
-unfolding put_changes
-puts_in x cs [] (inl there) = there
-puts_in x cs [] (inr none) = absurd none
-puts_in x cs (d ∷ ds) (inl there) = puts_in x (put_change d cs) ds (inl (put_in x d cs (inr there)))
-puts_in x cs (d ∷ ds) (inr (inl is)) = puts_in x (put_change d cs) ds (inl (put_in x d cs (inl is)))
-puts_in x cs (d ∷ ds) (inr (inr behind)) = puts_in x (put_change d cs) ds (inr behind)
+-- each output's bytes are held
+pub kept : (dir : List ℕ) (m : Files) (os : List OutFile) (o : OutFile) → Rises os → Among o os → fin.get (after dir m os) (stored_name dir o.name) ≡ Some o.bytes
+kept dir m [] o rises among = absurd among
+kept dir m (p ∷ ps) o rises (inl is) =
+    subst (λ (x : OutFile). fin.get (after dir m (p ∷ ps)) (stored_name dir x.name) ≡ Some x.bytes) (sym is)
+    (untouched dir (fin.insert m (stored_name dir p.name) p.bytes) ps (stored_name dir p.name) (λ q among. stored_apart dir p q (rises.0 q among)) ∙ here m (stored_name dir p.name) p.bytes)
+kept dir m (p ∷ ps) o rises (inr there) = kept dir (fin.insert m (stored_name dir p.name) p.bytes) ps o rises.1 there

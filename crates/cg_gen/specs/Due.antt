@@ -1,16 +1,21 @@
--- What a run is to do: the changes of the store and the line that is printed.
-use Rattle.std.specs.Prelude.{◌≡◌, ℕ, List, [], ◌∷◌, ◌++◌, length, codes, Option, Some}
+-- What a run is to do, by its words and by what the store gave for the files that they name.
+use Rattle.std.specs.Prelude.{◌≡◌, ℕ, List, [], ◌∷◌, ◌++◌, map, length, codes}
 use Rattle.std.specs.Fmt.{decimal}
-use Rattle.std.specs.FinMap as map
-use Rattle.cg_base.specs.Outside.{Files}
 use Rattle.cg_desc.specs.FaultText.{fault_line}
 use Rattle.cg_desc.specs.declared.fault.Fault.{Fault}
-use Rattle.cg_gen.specs.declared.due.Change.{Change}
-use Rattle.cg_gen.specs.declared.due.Due.{Due}
-use Rattle.cg_gen.specs.declared.words.Asked.{Asked}
+use Rattle.cg_finding.specs.Violations.{IsFirstFault}
+use Rattle.cg_outputs.specs.Outputs.{AreOutputs}
+use Rattle.cg_outputs.specs.declared.out_file.OutFile.{OutFile}
 use Rattle.cg_words.specs.Words.{IsCommand}
-use Rattle.cg_words.specs.declared.command.Command.TheVariants.{Regtool}
-use Rattle.cg_gen.specs.Build.{Output, IsFirstFault, IsBuilt}
+use Rattle.cg_words.specs.declared.command.Command.{Command}
+use Rattle.cg_gen.specs.declared.deed.Stream.TheVariants.{Out, Err}
+use Rattle.cg_gen.specs.declared.deed.Deed.{Deed}
+use Rattle.cg_gen.specs.declared.deed.Deed.TheVariants.{Write, Say}
+use Rattle.cg_gen.specs.declared.deed.Status.TheVariants.{Built, Refused, NoCommand}
+use Rattle.cg_gen.specs.declared.deed.Due.{Due}
+use Rattle.cg_gen.specs.Reads.{Read, name_of_file}
+use Rattle.cg_gen.specs.Regtool.{stored_name}
+use Rattle.cg_gen.specs.Commands.{IsBuiltCommand, NextRead, Violates, IsOutput, folder_of}
 
 -- a text as a line
 abbrev pub line : List ℕ → List ℕ
@@ -23,50 +28,47 @@ usage =
     ++ (line (codes "usage: topgen -t FILE -o DIR -w N") ++ (line (codes "usage: session -t FILE -o DIR -w N")
     ++ (line (codes "usage: probe DIR HOST ADDR") ++ line (codes "usage: sample NUMBER")))))
 
--- an output's name in the store: the folder, `/` and its file name
-abbrev pub stored_name : List ℕ → List ℕ → List ℕ
-stored_name dir name = dir ++ (codes "/" ++ name)
+-- ---- the reads of a command
 
--- the files of these outputs, written into a folder
-abbrev pub changes_of : List ℕ → List Output → List Change
-changes_of dir [] = []
-changes_of dir (o ∷ os) = record { name = stored_name dir o.name; bytes = o.bytes } ∷ changes_of dir os
+-- the command reads these files, in this order
+pub data HasRead (command : Command) : List Read → Type 0 where
+  none : HasRead command []
+  one_more : (reads : List Read) (next : Read) → HasRead command reads → NextRead command reads next.name → HasRead command (reads ++ next ∷ [])
 
--- how many files were written; none is removed
-abbrev pub built_line : ℕ → List ℕ
-built_line count = line (codes "built " ++ (decimal count ++ codes " 0"))
+-- and no further one
+pub record HasReadAll (command : Command) (reads : List Read) : Type 0 where
+  pub has_read : HasRead command reads
+  pub all : (name : List ℕ) → ¬ NextRead command reads name
+
+-- ---- deeds
+
+-- a file is written into a folder
+abbrev pub write_of : List ℕ → OutFile → Deed
+write_of dir o = Write (stored_name dir o.name) o.bytes
+
+-- how many files were written and removed
+abbrev pub built_line : ℕ → ℕ → List ℕ
+built_line written removed = line (codes "built " ++ (decimal written ++ (codes " " ++ decimal removed)))
 
 -- the outputs are written, and their number is told
-abbrev pub due_of_outputs : List ℕ → List Output → Due
-due_of_outputs dir outputs = record { changes = changes_of dir outputs; line = built_line (length outputs); status = 0 }
+abbrev pub due_of_outputs : List ℕ → List OutFile → Due
+due_of_outputs dir outputs = record { deeds = map (write_of dir) outputs ++ (Say Out (built_line (length outputs) 0) ∷ []); status = Built }
 
 -- the fault's line is told
-abbrev pub due_of_fault : List ℕ → Fault → Due
-due_of_fault file fault = record { changes = []; line = line (fault_line file fault); status = 1 }
+abbrev pub due_of_fault : List Read → Fault → Due
+due_of_fault reads fault = record { deeds = Say Err (line (fault_line (name_of_file reads fault.file) fault)) ∷ []; status = Refused }
 
 -- the usage text is told
 abbrev pub due_of_no_command : Due
-due_of_no_command = record { changes = []; line = usage; status = 2 }
+due_of_no_command = record { deeds = Say Err usage ∷ []; status = NoCommand }
 
--- ---- the commands that are built
+-- ---- what is due
 
--- the words ask for the outputs of a block
-abbrev pub IsAsked : List (List ℕ) → Asked → Type 0
-IsAsked words command = IsCommand words (Regtool command.made command.dir command.file)
-
--- What is due for what the store gave for the file: its first fault is told, exactly where there is one, or else its outputs are
--- written.
-pub data IsDueFor (command : Asked) (given : Option (List ℕ)) : Due → Type 0 where
-  refuses : (fault : Fault) → IsFirstFault given fault → IsDueFor command given (due_of_fault command.file fault)
-  builds : (outputs : List Output) → IsBuilt command.made given outputs → IsDueFor command given (due_of_outputs command.dir outputs)
-
--- what the store gave for a name is its file, where the files are told
-abbrev pub Gave : Option Files → List ℕ → Option (List ℕ) → Type 0
-Gave files name given = (m : Files) → files ≡ Some m → map.get m name ≡ given
-
--- What is due for the words and the files at entry. The words are no command, or one that is not built yet, or they ask for the
--- outputs of a block.
-pub data IsDue (words : List (List ℕ)) (files : Option Files) : Due → Type 0 where
-  no_command : ((c : Asked) → ¬ IsAsked words c) → IsDue words files due_of_no_command
-  command : {due : Due} (c : Asked) (given : Option (List ℕ)) → IsAsked words c → Gave files c.file given → IsDueFor c given due
-      → IsDue words files due
+-- What is due behind these reads. The words are no command that is built, and nothing is read; or they are one, all its files were
+-- read, and the first fault of them is told, exactly where there is one; or else its outputs are written.
+pub data IsDue (words : List (List ℕ)) : List Read → Due → Type 0 where
+  no_command : ((c : Command) → IsBuiltCommand c → ¬ IsCommand words c) → IsDue words [] due_of_no_command
+  refuses : (reads : List Read) (fault : Fault) (c : Command) → IsCommand words c → HasReadAll c reads → IsFirstFault (Violates c reads) fault
+      → IsDue words reads (due_of_fault reads fault)
+  builds : (reads : List Read) (c : Command) (outputs : List OutFile) → IsCommand words c → IsBuiltCommand c → HasReadAll c reads → ((fault : Fault) → ¬ Violates c reads fault)
+      → AreOutputs (IsOutput c reads) outputs → IsDue words reads (due_of_outputs (folder_of c) outputs)

@@ -1,6 +1,9 @@
-pub mod Stages
-pub mod Build
+pub mod Outside
+pub mod Deeds
+pub mod Reads
+pub mod Regtool
+pub mod Commands
 pub mod Due
-pub mod Texts
-pub mod Run
 pub mod Meaning
+pub mod Run
+pub mod Inner

@@ -1,74 +1,91 @@
-ghost use Rattle.std.specs.Prelude.{◌≡◌, ◌<◌, OnOk, OnErr, IsErrOf};
-ghost use Rattle.cg_base.specs.Outside.{HasCause};
-ghost use Rattle.cg_gen.specs.Run.{World, world, changed, StoppedIn, IsWhole, EndsLine, Puts, PerformEnds};
+//! The doing of what is due.
 
-use crate::due::{Change, Due};
+ghost use Rattle.std.specs.Prelude.{◌≡◌};
+ghost use Rattle.cg_gen.specs.Outside.{Outlets, Later, outlets};
+ghost use Rattle.cg_gen.specs.Inner.{DeedEnds, DeedsEnd, PerformEnds};
+
+use crate::deed::{Deed, Due, Stream};
 use crate::ending::Ending;
+use crate::stop::Stop;
 use cg_base::{Sink, SinkFault, Store, StoreFault};
 
-/// Writes the files in their order, and stops at the first that is refused.
-#[tactic(auto, using(cg_base::specs::Outside::same_OnlyAt, cg_base::specs::Outside::written_OnlyAt))]
-fn write_all<S: Store>(changes: &[Change], store: &mut S) -> Result<(), StoreFault>
-    ensures written { OnOk result (S.content store.new ≡ changed (S.content store.old) changes.now) }
-    ensures stopped { OnErr result (StoppedIn changes.now (S.content store.old) (S.content store.new)) }
-    ensures cause { HasCause (IsErrOf result StoreFault.Failed) (S.change_faults store.old) (S.change_faults store.new) }
+/// Does one deed.
+fn do_deed<S: Store, O: Sink, E: Sink>(
+    deed: &Deed,
+    store: &mut S,
+    out: &mut O,
+    err: &mut E,
+) -> Result<(), Stop>
+    ensures ends { let before : Outlets = outlets (S.content store.old) (S.change_faults store.old) (O.held out.old) (O.faults out.old) (E.held err.old) (E.faults err.old) in
+        let after : Outlets = outlets (S.content store.new) (S.change_faults store.new) (O.held out.new) (O.faults out.new) (E.held err.new) (E.faults err.new) in
+        DeedEnds result deed.now before after }
+    ensures later { let before : Outlets = outlets (S.content store.old) (S.change_faults store.old) (O.held out.old) (O.faults out.old) (E.held err.old) (E.faults err.old) in
+        let after : Outlets = outlets (S.content store.new) (S.change_faults store.new) (O.held out.new) (O.faults out.new) (E.held err.new) (E.faults err.new) in
+        Later before after }
     ensures reads { S.read_faults store.new ≡ S.read_faults store.old }
+    ensures asked { S.asked store.new ≡ S.asked store.old }
 {
-    for change in changes {
-        store.write(change.name.as_str(), change.bytes.as_str().as_bytes())?;
+    match deed {
+        Deed::Write { name, bytes } => match store.write(name.as_str(), bytes.as_slice()) {
+            Ok(()) => Ok(()),
+            Err(StoreFault::Failed) => Err(Stop::Failed),
+            Err(StoreFault::Memory) => Err(Stop::Memory),
+        },
+        Deed::Remove { name } => match store.remove(name.as_str()) {
+            Ok(()) => Ok(()),
+            Err(StoreFault::Failed) => Err(Stop::Failed),
+            Err(StoreFault::Memory) => Err(Stop::Memory),
+        },
+        Deed::Say { stream, line } => match stream {
+            Stream::Out => match out.put(line.as_str().as_bytes()) {
+                Ok(()) => Ok(()),
+                Err(SinkFault::Failed) => Err(Stop::Failed),
+                Err(SinkFault::Memory) => Err(Stop::Memory),
+            },
+            Stream::Err => match err.put(line.as_str().as_bytes()) {
+                Ok(()) => Ok(()),
+                Err(SinkFault::Failed) => Err(Stop::Failed),
+                Err(SinkFault::Memory) => Err(Stop::Memory),
+            },
+        },
+    }
+}
+
+/// Does the deeds in their order, up to the first that its object refuses.
+fn do_all<S: Store, O: Sink, E: Sink>(
+    deeds: &[Deed],
+    store: &mut S,
+    out: &mut O,
+    err: &mut E,
+) -> Result<(), Stop>
+    ensures ends { let before : Outlets = outlets (S.content store.old) (S.change_faults store.old) (O.held out.old) (O.faults out.old) (E.held err.old) (E.faults err.old) in
+        let after : Outlets = outlets (S.content store.new) (S.change_faults store.new) (O.held out.new) (O.faults out.new) (E.held err.new) (E.faults err.new) in
+        DeedsEnd result deeds.now before after }
+    ensures reads { S.read_faults store.new ≡ S.read_faults store.old }
+    ensures asked { S.asked store.new ≡ S.asked store.old }
+{
+    for deed in deeds {
+        do_deed(deed, store, out, err)?;
     }
     Ok(())
 }
 
-/// Puts the line on a stream.
-fn put_line<K: Sink>(line: &str, sink: &mut K) -> Result<(), SinkFault>
-    ensures { Puts result (K.held sink.old) (K.held sink.new) (K.faults sink.old) (K.faults sink.new) line.now }
-{
-    sink.put(line.as_bytes())
-}
-
-fn whole(status: u8) -> Ending
-    requires { status < 3 }
-    ensures { IsWhole result status }
-{
-    match status {
-        0 => Ending::Built,
-        1 => Ending::Refused,
-        _ => Ending::NoCommand,
-    }
-}
-
-fn ending(told: Result<(), SinkFault>, status: u8) -> Ending
-    requires { status < 3 }
-    ensures { EndsLine result told status }
-{
-    match told {
-        Ok(()) => whole(status),
-        Err(SinkFault::Failed) => Ending::WriteFailed,
-        Err(SinkFault::Memory) => Ending::Memory,
-    }
-}
-
-/// Makes the changes in their order and then tells the line, up to the first refusal.
+/// Does what is due, up to the first deed that its object refuses.
 pub fn perform<S: Store, O: Sink, E: Sink>(
     due: &Due,
     store: &mut S,
     out: &mut O,
     err: &mut E,
 ) -> Ending
-    requires { due.now.status < 3 }
-    ensures { let before : World = world (S.content store.old) (S.read_faults store.old) (S.change_faults store.old) (O.held out.old) (O.faults out.old) (E.held err.old) (E.faults err.old) in
-        let after : World = world (S.content store.new) (S.read_faults store.new) (S.change_faults store.new) (O.held out.new) (O.faults out.new) (E.held err.new) (E.faults err.new) in
+    ensures ends { let before : Outlets = outlets (S.content store.old) (S.change_faults store.old) (O.held out.old) (O.faults out.old) (E.held err.old) (E.faults err.old) in
+        let after : Outlets = outlets (S.content store.new) (S.change_faults store.new) (O.held out.new) (O.faults out.new) (E.held err.new) (E.faults err.new) in
         PerformEnds result due.now before after }
+    ensures reads { S.read_faults store.new ≡ S.read_faults store.old }
+    ensures asked { S.asked store.new ≡ S.asked store.old }
 {
-    match write_all(due.changes.as_slice(), store) {
-        Ok(()) => {}
-        Err(StoreFault::Failed) => return Ending::WriteFailed,
-        Err(StoreFault::Memory) => return Ending::Memory,
-    }
-    if due.status == 0 {
-        ending(put_line(due.line.as_str(), out), due.status)
-    } else {
-        ending(put_line(due.line.as_str(), err), due.status)
+    match do_all(due.deeds.as_slice(), store, out, err) {
+        Ok(()) => Ending::Done(due.status),
+        Err(Stop::Failed) => Ending::WriteFailed,
+        Err(Stop::Memory) => Ending::Memory,
     }
 }

@@ -3,10 +3,10 @@ ghost use Rattle.cg_gen.specs.declared.stop.Stop.TheVariants.{Memory as OutOfMem
 
 use cg_base::Memory;
 
-/// Why a run did not come to what it is to do.
+/// Why a run did not come to its end: an object of the outside failed, and counted that, or memory was not found.
 #[derive(Clone, Copy, Debug, PartialEq, Eq)]
 pub enum Stop {
-    ReadFailed,
+    Failed,
     Memory,
 }
 

@@ -1,53 +1,35 @@
-ghost use Rattle.std.specs.Prelude.{◌≡◌, ◌<◌, map, string_bytes};
-ghost use Rattle.cg_gen.specs.Run.{World, world, Performs, ReadFails, WriteFails, MemoryUnfound, Completes, Ends, code_of};
-ghost use Rattle.cg_gen.specs.Meaning.{WritesMeaning};
+ghost use Rattle.std.specs.Prelude.{◌≡◌, map, string_bytes};
+ghost use Rattle.cg_gen.specs.Outside.{World, outlets, world};
+ghost use Rattle.cg_gen.specs.Run.{Runs, Completes, Ends, code_of};
 
 use crate::ending::Ending;
 use crate::perform::perform;
 use crate::plan::plan;
 use crate::stop::Stop;
 use cg_base::{Gate, Sink, Source, Steps, Store};
-use cg_done::{completed_is_same, completed_is_sound, completed_reads_back};
-use cg_hdrspec::block_header_means;
-use cg_jsonspec::documents_are_sayable;
-use cg_regspec::register_module_means;
-use cg_samespec::{read_fields_are_apart, same_is_laid};
-use cg_svspec::printed_text_stands;
+use cg_block::{block_outputs_mean, one_block_or_none};
+use cg_outputs::outputs_are_one_list;
 use std::alloc::Global;
 use std::sync::ledger::Ledger;
 use std::thread::Threads;
 
-fn code(ending: Ending) -> u8
-    ensures { result ≡ code_of ending }
-{
-    match ending {
-        Ending::Built => 0,
-        Ending::Refused => 1,
-        Ending::NoCommand => 2,
-        Ending::ReadFailed => 3,
-        Ending::WriteFailed => 4,
-        Ending::Memory => 5,
-    }
-}
-
-/// Finds what is due, and performs it.
-fn run_words<S: Store, O: Sink, E: Sink>(
+/// Finds what is due, and does it.
+fn run_words<S: Store, I: Source, O: Sink, E: Sink>(
     alloc: Global,
     words: &[String],
     store: &mut S,
+    _input: &mut I,
     out: &mut O,
     err: &mut E,
 ) -> Ending
-    ensures ends { let before : World = world (S.content store.old) (S.read_faults store.old) (S.change_faults store.old) (O.held out.old) (O.faults out.old) (E.held err.old) (E.faults err.old) in
-        let after : World = world (S.content store.new) (S.read_faults store.new) (S.change_faults store.new) (O.held out.new) (O.faults out.new) (E.held err.new) (E.faults err.new) in
+    ensures ends { let before : World = world (outlets (S.content store.old) (S.change_faults store.old) (O.held out.old) (O.faults out.old) (E.held err.old) (E.faults err.old)) (S.asked store.old) (S.read_faults store.old) (I.left _input.old) (I.faults _input.old) in
+        let after : World = world (outlets (S.content store.new) (S.change_faults store.new) (O.held out.new) (O.faults out.new) (E.held err.new) (E.faults err.new)) (S.asked store.new) (S.read_faults store.new) (I.left _input.new) (I.faults _input.new) in
         Ends result (map string_bytes words.now) before after }
-    ensures completes { let before : World = world (S.content store.old) (S.read_faults store.old) (S.change_faults store.old) (O.held out.old) (O.faults out.old) (E.held err.old) (E.faults err.old) in
-        let after : World = world (S.content store.new) (S.read_faults store.new) (S.change_faults store.new) (O.held out.new) (O.faults out.new) (E.held err.new) (E.faults err.new) in
-        Completes (code_of result) (map string_bytes words.now) before after }
+    ensures input { I.left _input.new ≡ I.left _input.old }
 {
     match plan(alloc, words, store) {
         Ok(due) => perform(&due, store, out, err),
-        Err(Stop::ReadFailed) => Ending::ReadFailed,
+        Err(Stop::Failed) => Ending::ReadFailed,
         Err(Stop::Memory) => Ending::Memory,
     }
 }
@@ -60,68 +42,27 @@ fn run_words<S: Store, O: Sink, E: Sink>(
 /// started.
 ///
 /// The status is 0 where the outputs were written and told, 1 where the description has a first fault, 2 where the words are no
-/// command that is built, 3 and 4 where the store or a stream failed, and 5 where memory was not found. What each means is a clause
-/// below. No clause rules out want of memory, and where the store or a stream tells no content, the clauses on content say nothing
+/// command that is built, 3 and 4 where the store or a stream failed, and 5 where memory was not found. What each means is a field of
+/// `Runs`. No clause rules out want of memory, and where the store or a stream tells no content, the clauses on content say nothing
 /// of it.
 pub fn run<R: Threads + Sync, S: Store, I: Source, O: Sink, E: Sink, G: Gate + Sync, L: Ledger>(
     _rt: &R,
     alloc: Global,
     words: &[String],
     store: &mut S,
-    _input: &mut I,
+    input: &mut I,
     out: &mut O,
     err: &mut E,
     _gate: &G,
     _steps: &mut Steps<L>,
 ) -> u8
-    ensures range { result < 6 }
-    ensures input_left { I.left _input.new ≡ I.left _input.old }
+    ensures runs { let before : World = world (outlets (S.content store.old) (S.change_faults store.old) (O.held out.old) (O.faults out.old) (E.held err.old) (E.faults err.old)) (S.asked store.old) (S.read_faults store.old) (I.left input.old) (I.faults input.old) in
+        let after : World = world (outlets (S.content store.new) (S.change_faults store.new) (O.held out.new) (O.faults out.new) (E.held err.new) (E.faults err.new)) (S.asked store.new) (S.read_faults store.new) (I.left input.new) (I.faults input.new) in
+        Runs result (map string_bytes words.now) before after }
     ensures no_step { _steps.new ≡ _steps.old }
-    // the outputs are written, and their number is told
-    ensures done { result ≡ 0 →
-        let before : World = world (S.content store.old) (S.read_faults store.old) (S.change_faults store.old) (O.held out.old) (O.faults out.old) (E.held err.old) (E.faults err.old) in
-        let after : World = world (S.content store.new) (S.read_faults store.new) (S.change_faults store.new) (O.held out.new) (O.faults out.new) (E.held err.new) (E.faults err.new) in
-        Performs 0 (map string_bytes words.now) before after }
-    // the first fault is told, and nothing is written
-    ensures refused { result ≡ 1 →
-        let before : World = world (S.content store.old) (S.read_faults store.old) (S.change_faults store.old) (O.held out.old) (O.faults out.old) (E.held err.old) (E.faults err.old) in
-        let after : World = world (S.content store.new) (S.read_faults store.new) (S.change_faults store.new) (O.held out.new) (O.faults out.new) (E.held err.new) (E.faults err.new) in
-        Performs 1 (map string_bytes words.now) before after }
-    // the words are no command that is built, and the usage text is told
-    ensures no_command { result ≡ 2 →
-        let before : World = world (S.content store.old) (S.read_faults store.old) (S.change_faults store.old) (O.held out.old) (O.faults out.old) (E.held err.old) (E.faults err.old) in
-        let after : World = world (S.content store.new) (S.read_faults store.new) (S.change_faults store.new) (O.held out.new) (O.faults out.new) (E.held err.new) (E.faults err.new) in
-        Performs 2 (map string_bytes words.now) before after }
-    ensures read_failed { result ≡ 3 →
-        let before : World = world (S.content store.old) (S.read_faults store.old) (S.change_faults store.old) (O.held out.old) (O.faults out.old) (E.held err.old) (E.faults err.old) in
-        let after : World = world (S.content store.new) (S.read_faults store.new) (S.change_faults store.new) (O.held out.new) (O.faults out.new) (E.held err.new) (E.faults err.new) in
-        ReadFails before after }
-    ensures write_failed { result ≡ 4 →
-        let before : World = world (S.content store.old) (S.read_faults store.old) (S.change_faults store.old) (O.held out.old) (O.faults out.old) (E.held err.old) (E.faults err.old) in
-        let after : World = world (S.content store.new) (S.read_faults store.new) (S.change_faults store.new) (O.held out.new) (O.faults out.new) (E.held err.new) (E.faults err.new) in
-        WriteFails (map string_bytes words.now) before after }
-    ensures memory { result ≡ 5 →
-        let before : World = world (S.content store.old) (S.read_faults store.old) (S.change_faults store.old) (O.held out.old) (O.faults out.old) (E.held err.old) (E.faults err.old) in
-        let after : World = world (S.content store.new) (S.read_faults store.new) (S.change_faults store.new) (O.held out.new) (O.faults out.new) (E.held err.new) (E.faults err.new) in
-        MemoryUnfound (map string_bytes words.now) before after }
-    // where no count rose, what is due decides the status, but for want of memory
-    ensures complete { let before : World = world (S.content store.old) (S.read_faults store.old) (S.change_faults store.old) (O.held out.old) (O.faults out.old) (E.held err.old) (E.faults err.old) in
-        let after : World = world (S.content store.new) (S.read_faults store.new) (S.change_faults store.new) (O.held out.new) (O.faults out.new) (E.held err.new) (E.faults err.new) in
-        Completes result (map string_bytes words.now) before after }
-    // the bytes in the store mean what the description asks for: modules, a header or a completed description
-    ensures meaning { result ≡ 0 →
-        let before : World = world (S.content store.old) (S.read_faults store.old) (S.change_faults store.old) (O.held out.old) (O.faults out.old) (E.held err.old) (E.faults err.old) in
-        let after : World = world (S.content store.new) (S.read_faults store.new) (S.change_faults store.new) (O.held out.new) (O.faults out.new) (E.held err.new) (E.faults err.new) in
-        WritesMeaning (map string_bytes words.now) before after }
 {
-    printed_text_stands();
-    register_module_means();
-    block_header_means();
-    completed_reads_back();
-    completed_is_same();
-    completed_is_sound();
-    read_fields_are_apart();
-    same_is_laid();
-    documents_are_sayable();
-    code(run_words(alloc, words, store, out, err))
+    block_outputs_mean();
+    one_block_or_none();
+    outputs_are_one_list();
+    run_words(alloc, words, store, input, out, err).code()
 }

@@ -1,0 +1,6 @@
+pub mod Stages
+pub mod Outputs
+pub mod Breaks
+pub mod Unit
+pub mod Meaning
+pub mod Laws

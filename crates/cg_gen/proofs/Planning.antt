@@ -1,0 +1,83 @@
+-- What is due for the words, from what the pieces say.
+use Rattle.std.proofs.Common.{◌≡◌, ◌⊎◌, ℕ, List, [], ◌∷◌, ◌++◌, append-nil, Option, Some, None, refl, sym, ap, ◌∙◌, subst, inl, inr}
+use Rattle.cg_base.specs.Outside.{Files, Rose, also_asked}
+use Rattle.cg_words.specs.Words.{IsCommand}
+use Rattle.cg_words.specs.declared.command.Command.{Command}
+use Rattle.cg_words.specs.declared.command.Command.TheVariants.{Regtool}
+use Rattle.cg_words.specs.declared.command.RegOut.{RegOut}
+use Rattle.cg_words.proofs.ExactWords.{one_command}
+use Rattle.cg_gen.specs.declared.deed.Due.{Due}
+use Rattle.cg_gen.specs.Reads.{Read, read, Gave, GaveAll, names_of}
+use Rattle.cg_gen.specs.Regtool as regtool
+use Rattle.cg_gen.specs.Commands.{IsBuiltCommand, NextRead}
+use Rattle.cg_gen.specs.Due.{HasRead, none, one_more, HasReadAll, IsDue, no_command, refuses, builds, due_of_no_command}
+use Rattle.cg_gen.specs.Inner as inner
+use Rattle.cg_gen.specs.Inner.{IsDueFor}
+use Rattle.cg_gen.specs.Run.{Finds, NextReadFails}
+
+-- ---- the reads of regtool
+
+-- a list with an item at its end is not empty
+not_empty : {X : Type 0} (xs : List X) (x : X) → xs ++ x ∷ [] ≡ [] → ⊥
+not_empty [] x e = cc
+not_empty (y ∷ ys) x e = cc
+
+-- it has read its description
+pub has_read : (made : RegOut) (dir file : List ℕ) (g : Option (List ℕ)) → HasReadAll (Regtool made dir file) (read file g ∷ [])
+has_read made dir file g = record {
+  has_read = one_more [] (read file g) none (record { first = refl; description = refl });
+  all = λ name next. let bad : ◌≡◌ {A = List Read} (read file g ∷ []) [] = next.first in cc;
+}
+
+-- it reads nothing first, and then nothing but its description
+pub read_so : (made : RegOut) (dir file : List ℕ) (reads : List Read) → HasRead (Regtool made dir file) reads → (reads ≡ []) ⊎ ((g : Option (List ℕ)) × (reads ≡ read file g ∷ []))
+read_so made dir file _ none = inl refl
+read_so made dir file _ (one_more before next has is) =
+    inr (next.given, (λ i. is.first i ++ (record { name = is.description i; given = next.given }) ∷ []))
+
+-- ---- what is due
+
+-- what is due for the description is due for the words
+pub described_due : (words : List (List ℕ)) (made : RegOut) (dir file : List ℕ) (g : Option (List ℕ)) (due : Due) → IsCommand words (Regtool made dir file)
+    → IsDueFor made dir (read file g) due → IsDue words (read file g ∷ []) due
+described_due words made dir file g due is (inner.refuses fault first same) =
+    subst (IsDue words (read file g ∷ [])) (sym same) (refuses (read file g ∷ []) fault (Regtool made dir file) is (has_read made dir file g) first)
+described_due words made dir file g due is (inner.builds outputs sound are same) =
+    subst (IsDue words (read file g ∷ [])) (sym same) (builds (read file g ∷ []) (Regtool made dir file) outputs is tt (has_read made dir file g) sound are)
+
+-- the description was read, and this is due for it
+pub planned : (words : List (List ℕ)) (files : Option Files) (asked asked' : Option (List (List ℕ))) (made : RegOut) (dir file : List ℕ) (g : Option (List ℕ)) (due : Due)
+    → IsCommand words (Regtool made dir file) → Gave files (read file g) → asked' ≡ also_asked asked (file ∷ []) → IsDueFor made dir (read file g) due
+    → (reads : List Read) × Finds words files asked asked' reads due
+planned words files asked asked' made dir file g due is gave told for =
+    (read file g ∷ [], record { gave = (gave, tt); asked_for = told; is_due = described_due words made dir file g due is for })
+
+-- the read of the description failed
+pub read_failed : (words : List (List ℕ)) (files : Option Files) (asked asked' : Option (List (List ℕ))) (made : RegOut) (dir file : List ℕ) (faults faults' : ℕ)
+    → IsCommand words (Regtool made dir file) → asked' ≡ also_asked asked (file ∷ []) → Rose faults faults' → NextReadFails words files asked asked' faults faults'
+read_failed words files asked asked' made dir file faults faults' is told rose = record {
+  command = Regtool made dir file;
+  is_command = is;
+  reads = [];
+  gave = tt;
+  has_read = none;
+  next = file;
+  is_next = record { first = refl; description = refl };
+  asked_for = told;
+  rose = rose;
+}
+
+-- ---- words that are no command that is built
+
+none_asked : (asked : Option (List (List ℕ))) → asked ≡ also_asked asked []
+none_asked None = refl
+none_asked (Some names) = ap Some (sym (append-nil names))
+
+pub usage_planned : (words : List (List ℕ)) (files : Option Files) (asked asked' : Option (List (List ℕ))) (due : Due) → ((c : Command) → IsBuiltCommand c → ¬ IsCommand words c)
+    → asked' ≡ asked → due ≡ due_of_no_command → (reads : List Read) × Finds words files asked asked' reads due
+usage_planned words files asked asked' due other told same =
+    ([], record { gave = tt; asked_for = told ∙ none_asked asked; is_due = subst (IsDue words []) (sym same) (no_command other) })
+
+-- of two commands that words are, both are built or none
+pub not_built : (words : List (List ℕ)) (c : Command) → IsCommand words c → ¬ IsBuiltCommand c → (d : Command) → IsBuiltCommand d → ¬ IsCommand words d
+not_built words c is other d built also = other (subst IsBuiltCommand (one_command words d c also is) built)

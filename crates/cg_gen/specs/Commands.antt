@@ -1,0 +1,43 @@
+-- The commands that are built: what each reads, what breaks a rule in its files, what it writes, and what that means. One line each.
+use Rattle.std.specs.Prelude.{ℕ, List, []}
+use Rattle.cg_base.specs.Outside.{Files}
+use Rattle.cg_desc.specs.declared.fault.Fault.{Fault}
+use Rattle.cg_outputs.specs.declared.out_file.OutFile.{OutFile}
+use Rattle.cg_words.specs.declared.command.Command.{Command}
+use Rattle.cg_words.specs.declared.command.Command.TheVariants.{Regtool, Tlgen, Topgen, Session, Probe, Sample}
+use Rattle.cg_gen.specs.Reads.{Read}
+use Rattle.cg_gen.specs.Regtool as regtool
+
+-- the others are answered by the usage text
+abbrev pub IsBuiltCommand : Command → Type 0
+IsBuiltCommand (Regtool made dir file) = Unit {0}
+IsBuiltCommand _ = ⊥
+
+-- behind these reads the command reads the file of this name next
+abbrev pub NextRead : Command → List Read → List ℕ → Type 0
+NextRead (Regtool made dir file) reads name = regtool.NextRead file reads name
+NextRead _ reads name = ⊥
+
+-- the files that it read break a rule
+abbrev pub Violates : Command → List Read → Fault → Type 0
+Violates (Regtool made dir file) reads fault = regtool.Violates reads fault
+Violates _ reads fault = ⊥
+
+-- it writes this file into its folder
+abbrev pub IsOutput : Command → List Read → OutFile → Type 0
+IsOutput (Regtool made dir file) reads o = regtool.IsOutput made reads o
+IsOutput _ reads o = ⊥
+
+-- the folder of its outputs
+abbrev pub folder_of : Command → List ℕ
+folder_of (Regtool made dir file) = dir
+folder_of (Tlgen file dir) = dir
+folder_of (Topgen file dir workers) = dir
+folder_of (Session file dir workers) = dir
+folder_of (Probe dir host address) = dir
+folder_of (Sample number) = []
+
+-- what the files after a good run mean
+abbrev pub Writes : Command → Files → Files → Type 0
+Writes (Regtool made dir file) before after = regtool.WritesBlock made dir file before after
+Writes _ before after = ⊥

@@ -1,0 +1,78 @@
+-- What the parts of a run say, from which the clauses of the whole are made.
+use Rattle.std.specs.Prelude.{◌≡◌, ◌⊎◌, ◌<◌, ℕ, List, [], ◌∷◌, length, Option, Some, None, Result, Ok, Err}
+use Rattle.cg_base.specs.Outside.{Files}
+use Rattle.cg_desc.specs.declared.fault.Fault.{Fault}
+use Rattle.cg_finding.specs.Violations.{IsFirstFault}
+use Rattle.cg_words.specs.declared.command.RegOut.{RegOut}
+use Rattle.cg_outputs.specs.declared.out_file.OutFile.{OutFile}
+use Rattle.cg_outputs.specs.Outputs.{AreOutputs}
+use Rattle.cg_files.specs.Files.{File, limit}
+use Rattle.cg_gen.specs.declared.deed.Deed.{Deed}
+use Rattle.cg_gen.specs.declared.deed.Due.{Due}
+use Rattle.cg_gen.specs.declared.ending.Ending.{Ending}
+use Rattle.cg_gen.specs.declared.ending.Ending.TheVariants.{Done, ReadFailed, WriteFailed, Memory}
+use Rattle.cg_gen.specs.declared.given.Given.{Given}
+use Rattle.cg_gen.specs.declared.given.Given.TheVariants as given
+use Rattle.cg_gen.specs.declared.stop.Stop.{Stop}
+use Rattle.cg_gen.specs.declared.stop.Stop.TheVariants as stop
+use Rattle.cg_gen.specs.Outside.{Outlets}
+use Rattle.cg_gen.specs.Deeds.{Contents, contents, after_deed, after_deeds, Begun, FaultRose, StoppedAt}
+use Rattle.cg_gen.specs.Reads.{Read}
+use Rattle.cg_gen.specs.Regtool as regtool
+use Rattle.cg_gen.specs.Due.{due_of_fault, due_of_outputs}
+use Rattle.cg_gen.specs.Run.{Finds, NextReadFails}
+
+-- ---- deeds
+
+-- how a deed ends: it is done; it was begun and its object failed, or found no memory
+abbrev pub DeedEnds : Result (Unit {0}) Stop → Deed → Outlets → Outlets → Type 0
+DeedEnds (Ok u) deed before after = contents after ≡ after_deed deed (contents before)
+DeedEnds (Err stop.Failed) deed before after = Begun deed (contents before) (contents after) × FaultRose deed before after
+DeedEnds (Err stop.Memory) deed before after = Begun deed (contents before) (contents after)
+
+-- it stopped at this one of the deeds
+abbrev pub Stopped : Deed → List Deed → Contents → Contents → Type 0
+Stopped deed [] before after = ⊥
+Stopped deed (d ∷ ds) before after = ((deed ≡ d) × Begun d before after) ⊎ Stopped deed ds (after_deed d before) after
+
+-- how deeds end in their order
+abbrev pub DeedsEnd : Result (Unit {0}) Stop → List Deed → Outlets → Outlets → Type 0
+DeedsEnd (Ok u) deeds before after = contents after ≡ after_deeds deeds (contents before)
+DeedsEnd (Err stop.Failed) deeds before after = (deed : Deed) × Stopped deed deeds (contents before) (contents after) × FaultRose deed before after
+DeedsEnd (Err stop.Memory) deeds before after = (deed : Deed) × Stopped deed deeds (contents before) (contents after)
+
+-- how the performing of what is due ends
+abbrev pub PerformEnds : Ending → Due → Outlets → Outlets → Type 0
+PerformEnds (Done status) due before after = (due.status ≡ status) × (contents after ≡ after_deeds due.deeds (contents before))
+PerformEnds ReadFailed due before after = ⊥
+PerformEnds WriteFailed due before after =
+    (deed : Deed) × StoppedAt deed due.deeds (contents before) (contents after) × FaultRose deed before after
+PerformEnds Memory due before after = (deed : Deed) × StoppedAt deed due.deeds (contents before) (contents after)
+
+-- ---- reads
+
+-- what the program holds of a file is what the store gave: of one that is too large nothing but that it is
+abbrev pub IsGiven : Given → Option (List ℕ) → Type 0
+IsGiven given.Absent g = g ≡ None
+IsGiven given.Large g = (bytes : List ℕ) × (g ≡ Some bytes) × (limit < length bytes)
+IsGiven (given.Bytes bytes) g = g ≡ Some bytes
+
+-- the only file of a build
+abbrev pub only_file : Option (List ℕ) → File
+only_file g = record { number = 0; before = 0; given = g }
+
+-- ---- regtool
+
+-- what is due for a description
+pub data IsDueFor (made : RegOut) (dir : List ℕ) (r : Read) (due : Due) : Type 0 where
+  refuses : (fault : Fault) → IsFirstFault (regtool.Violates (r ∷ [])) fault → due ≡ due_of_fault (r ∷ []) fault → IsDueFor made dir r due
+  builds : (outputs : List OutFile) → ((fault : Fault) → ¬ regtool.Violates (r ∷ []) fault) → AreOutputs (regtool.IsOutput made (r ∷ [])) outputs
+      → due ≡ due_of_outputs dir outputs → IsDueFor made dir r due
+
+-- ---- the plan
+
+-- what is due is found, or a read of the command failed; want of memory says nothing
+abbrev pub PlanEnds : Result Due Stop → List (List ℕ) → Option Files → (asked asked' : Option (List (List ℕ))) → (faults faults' : ℕ) → Type 0
+PlanEnds (Ok due) words files asked asked' faults faults' = (reads : List Read) × Finds words files asked asked' reads due
+PlanEnds (Err stop.Failed) words files asked asked' faults faults' = NextReadFails words files asked asked' faults faults'
+PlanEnds (Err stop.Memory) words files asked asked' faults faults' = Unit {0}

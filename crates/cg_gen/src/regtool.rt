@@ -1,0 +1,73 @@
+//! `regtool`: one block, from its description to its register texts, its header or its completed description.
+
+ghost use Rattle.std.specs.Prelude.{◌≡◌, IfOk, Option, List, ℕ};
+ghost use Rattle.cg_files.specs.Files.{File};
+ghost use Rattle.cg_outputs.specs.Outputs.{AreOutputs};
+ghost use Rattle.cg_block.specs.Breaks.{FindsInFile};
+ghost use Rattle.cg_block.specs.Unit.{IsUnitOf};
+ghost use Rattle.cg_gen.specs.Reads.{Gave, read};
+ghost use Rattle.cg_gen.specs.Regtool.{IsAskedFor};
+ghost use Rattle.cg_gen.specs.Inner.{IsGiven, IsDueFor, only_file};
+
+use crate::deed::Due;
+use crate::given::Given;
+use crate::told::{fault_due, outputs_due};
+use cg_base::{List, Memory};
+use cg_block::{BlockUnit, completed_output, header_output, read_block, register_outputs};
+use cg_desc::DescFault;
+use cg_files::broken_file;
+use cg_outputs::OutFile;
+use cg_words::RegOut;
+use std::alloc::Global;
+
+/// The unit of the only file of a build.
+fn unit_of(alloc: Global, given: &Given) -> Result<BlockUnit, DescFault>
+    ensures { (g : Option (List ℕ)) → IsGiven given.now g → FindsInFile result (only_file g) (λ unit. IsUnitOf (only_file g) unit) }
+{
+    match given {
+        Given::Absent => Err(broken_file(alloc, 0, 10)),
+        Given::Large => Err(broken_file(alloc, 0, 11)),
+        Given::Bytes(bytes) => read_block(alloc, 0, 0, bytes.as_slice()),
+    }
+}
+
+/// A single output.
+fn alone(alloc: Global, output: OutFile) -> Result<List<OutFile>, Memory>
+    ensures { IfOk result (λ os. AreOutputs (λ o. o ≡ output) os) }
+{
+    let mut outputs = List::new(alloc);
+    outputs.push(output)?;
+    Ok(outputs)
+}
+
+/// The outputs that are asked for.
+fn outputs_of(alloc: Global, made: RegOut, unit: &BlockUnit) -> Result<List<OutFile>, Memory>
+    requires { (file : File) × IsUnitOf file unit.now }
+    ensures { IfOk result (λ os. AreOutputs (IsAskedFor made unit.now.tree unit.now.laid) os) }
+{
+    match made {
+        RegOut::Registers => register_outputs(alloc, unit),
+        RegOut::Header => alone(alloc, header_output(alloc, unit)?),
+        RegOut::Completed => alone(alloc, completed_output(alloc, unit)?),
+    }
+}
+
+/// What is due for a description: its first fault is told, or its outputs are written into the folder.
+pub fn regtool_due(
+    alloc: Global,
+    made: RegOut,
+    dir: &str,
+    file: &str,
+    given: &Given,
+) -> Result<Due, Memory>
+    ensures { (g : Option (List ℕ)) → IsGiven given.now g → IfOk result (λ due. IsDueFor made dir.now (read file.now g) due) }
+{
+    match unit_of(alloc, given) {
+        Ok(unit) => {
+            let outputs = outputs_of(alloc, made, &unit)?;
+            outputs_due(alloc, dir, outputs)
+        }
+        Err(DescFault::Fault(fault)) => fault_due(alloc, file, &fault),
+        Err(DescFault::Memory) => Err(Memory),
+    }
+}
