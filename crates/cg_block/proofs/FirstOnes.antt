@@ -1,5 +1,5 @@
 -- What a stage finds first is what the whole file breaks first.
-use Rattle.std.proofs.Common.{◌≡◌, ℕ, List, Some, Result, Ok, Err, sym, ◌∙◌, ap, subst, refl}
+use Rattle.std.proofs.Common.{◌≡◌, ℕ, List, Some, Result, Ok, Err, IfOk, map, sym, ◌∙◌, ap, subst, refl}
 use Rattle.cg_desc.specs.Faults.{Before}
 use Rattle.cg_desc.proofs.FaultOrder.{before_irreflexive}
 use Rattle.cg_desc.specs.declared.block.BlockDesc.{BlockDesc}
@@ -19,7 +19,12 @@ use Rattle.cg_files.specs.Files.{File, HasTree, BreaksFile}
 use Rattle.cg_files.proofs.OneTree.{same_tree, unbroken}
 use Rattle.cg_block.specs.Stages.{IsBlock, HasItems, IsLaidOutAs}
 use Rattle.cg_block.specs.Outputs.{clash_of}
-use Rattle.cg_block.specs.Breaks.{BreaksTree, BreaksBlock, keys_or_values, names_or_counts, offsets_or_gates, clash, of_file, of_tree, FindsInTree, FindsInFile}
+use Rattle.cg_sv.specs.Views.{module_of}
+use Rattle.cg_regspec.specs.RegisterModule.{modules_of}
+use Rattle.cg_hdrspec.specs.BlockHeader.{header_text}
+use Rattle.cg_block.specs.declared.unit.BlockUnit.{BlockUnit}
+use Rattle.cg_block.specs.Unit.{IsUnitOf}
+use Rattle.cg_block.specs.Breaks.{IsGoodBlock, BreaksTree, BreaksBlock, keys_or_values, names_or_counts, offsets_or_gates, clash, of_file, of_tree, FindsInTree, FindsInFile}
 
 -- where some of these is broken, all that is broken is of them: so their first is the first of all
 pub lifted : (V W : Finding → Type 0) (e : DescFault) (number : ℕ) → ((f : Finding) → V f → W f) → ((f g : Finding) → V f → W g → V g) → RefusesFirst e number V → RefusesFirst e number W
@@ -61,13 +66,13 @@ module _ (number : ℕ) (t : Tree) where
   pub one_layout : (a b : LaidBlock) → IsLaidOutAs number t a → IsLaidOutAs number t b → a ≡ b
   one_layout a b is also = laid_once (block_of number t) a b is.is_laid also.is_laid
 
-  clash_alone : (laid : LaidBlock) (name : List ℕ) → IsLaidOutAs number t laid → clash_of laid ≡ Some name → (g : Finding) → BreaksTree number t g → g ≡ finding 12 70 t.at name
-  clash_alone laid name is comes _ (keys_or_values also) = absurd (is.items.block _ also)
-  clash_alone laid name is comes _ (names_or_counts is' also) = absurd (is.items.sound _ also)
-  clash_alone laid name is comes _ (offsets_or_gates has also) = absurd (is.sound _ also)
-  clash_alone laid name is comes _ (clash {other} laid' is' also) =
-      let e : Some other ≡ Some name = sym also ∙ ap clash_of (one_layout laid' laid is' is) ∙ comes in
-      let same : other ≡ name = cc in
+  clash_alone : (laid : LaidBlock) (told : List ℕ) → IsLaidOutAs number t laid → clash_of laid ≡ Some told → (g : Finding) → BreaksTree number t g → g ≡ finding 12 70 t.at told
+  clash_alone laid told is comes _ (keys_or_values {f} also) = absurd (is.items.block f also)
+  clash_alone laid told is comes _ (names_or_counts {f} is' also) = absurd (is.items.sound f also)
+  clash_alone laid told is comes _ (offsets_or_gates {f} has also) = absurd (is.sound f also)
+  clash_alone laid told is comes _ (clash {name} laid' is' also) =
+      let e : Some name ≡ Some told = sym also ∙ ap clash_of (one_layout laid' laid is' is) ∙ comes in
+      let same : name ≡ told = cc in
       ap (λ n. finding 12 70 t.at n) same
 
   -- a name that comes twice is told
@@ -106,10 +111,20 @@ module _ (file : File) where
   pub file_first : (e : DescFault) → RefusesFirst e file.number (BreaksFile file) → RefusesFirst e file.number (BreaksBlock file)
   file_first e refuses = lifted (BreaksFile file) (BreaksBlock file) e file.number (λ f broken. of_file broken) file_alone refuses
 
-  tree_alone : (t : Tree) → HasTree file t → (f g : Finding) → BreaksTree file.number t f → BreaksBlock file g → BreaksTree file.number t g
-  tree_alone t has f _ broken (of_file also) = absurd (unbroken file t _ has also)
-  tree_alone t has f _ broken (of_tree u has' also) = subst (λ x. BreaksTree file.number x _) (same_tree file u t has' has) also
+  tree_alone : (t : Tree) → HasTree file t → (one g : Finding) → BreaksTree file.number t one → BreaksBlock file g → BreaksTree file.number t g
+  tree_alone t has one _ broken (of_file {f} also) = absurd (unbroken file t f has also)
+  tree_alone t has one _ broken (of_tree {f} u has' also) = subst (λ x. BreaksTree file.number x f) (same_tree file u t has' has) also
 
   pub tree_first : (t : Tree) → HasTree file t → (e : DescFault) → RefusesFirst e file.number (BreaksTree file.number t) → RefusesFirst e file.number (BreaksBlock file)
   tree_first t has e refuses =
       lifted (BreaksTree file.number t) (BreaksBlock file) e file.number (λ f broken. of_tree t has broken) (tree_alone t has) refuses
+
+-- ---- the unit
+
+-- the unit of a file's tree is the file's
+pub unit_found : (file : File) (t : Tree) (r : Result BlockUnit DescFault) → HasTree file t → FindsInTree r file.number t (λ u. IsGoodBlock file.number u.tree u.laid)
+    → IfOk r (λ u. u.tree ≡ t) → IfOk r (λ u. map module_of u.texts.modules ≡ modules_of u.laid) → IfOk r (λ u. u.texts.header ≡ header_text u.laid)
+    → FindsInFile r file (λ u. IsUnitOf file u)
+unit_found file t (Ok u) has good same modules header =
+    record { is_good = record { has_tree = subst (HasTree file) (sym same) has; is_good = good }; modules = modules; header = header }
+unit_found file t (Err e) has refuses same modules header = tree_first file t has e refuses

@@ -1,5 +1,5 @@
 -- One module more, of a block's interfaces.
-use Rattle.std.proofs.Common.{◌≡◌, ℕ, suc, ◌+◌, ◌<◌, ◌≤◌, List, [], ◌∷◌, ◌++◌, map, length, drop, drop-cons, add-one, get_or, Option, Some, None, Result, Err, sym, ap, ◌∙◌, subst, append_assoc, zero, arith}
+use Rattle.std.proofs.Common.{◌≡◌, ℕ, suc, ◌+◌, ◌<◌, ◌≤◌, List, [], ◌∷◌, ◌++◌, map, length, drop, drop-cons, add-one, get_or, Option, Some, None, Result, Ok, Err, IfOk, sym, ap, ◌∙◌, subst, append_assoc, zero, arith}
 use Rattle.std.proofs.lemmas.List.{drop_all, map-append}
 use Rattle.cg_svspec.specs.Names.{first_repeat, module_names}
 use Rattle.cg_svspec.specs.Printable.{AllOf}
@@ -67,3 +67,8 @@ one_put ms i m before now all o h e is put so =
 -- a fault that is passed on
 pub same_fault : {X : Type 0} (a b : SvRegFault) → ◌≡◌ {A = Result X SvRegFault} (Err a) (Err b) → a ≡ b
 same_fault a b e = cc
+
+-- what holds of an answer holds of it in other words
+pub if_ok : {X E : Type 0} (P Q : X → Type 0) (r : Result X E) → ((x : X) → P x → Q x) → IfOk r P → IfOk r Q
+if_ok P Q (Ok x) up is = up x is
+if_ok P Q (Err e) up is = tt

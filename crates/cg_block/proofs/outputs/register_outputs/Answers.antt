@@ -6,6 +6,7 @@ use Rattle.cg_block.specs.Outputs.{IsRegisterOutput}
 use Rattle.cg_block.specs.Unit.{module_output}
 use Rattle.cg_block.proofs.Again.{by_modules}
 use Rattle.cg_block.proofs.Differing.{register_texts_differ, in_order}
+use Rattle.cg_block.proofs.Loops.{if_ok}
 use Rattle.cg_block.proofs.Meanings.{good_printable}
 use Rattle.cg_block.proofs.outputs.register_outputs.Goals as goal
 
@@ -16,9 +17,9 @@ module_outputs-requires c =
 
 -- their texts are the block's, in order
 pub returns : goal.returns
-returns c = λ outputs made.
+returns c =
     let laid = c.args.unit.now.laid in
-    let told = c.module_outputs.ensures outputs made in
     let same = ap (map module_of) c.as_slice.ensures ∙ c.requires.1.modules in
-    let texts = told ∙ ap (λ ms. put_outputs [] (map module_output ms)) same ∙ ap (put_outputs []) (sym (by_modules laid laid.faces)) in
-    subst (AreOutputs (IsRegisterOutput laid)) (sym texts) (in_order laid (register_texts_differ c.requires.0 c.args.unit.now.tree laid c.requires.1.is_good))
+    if_ok _ (AreOutputs (IsRegisterOutput laid)) c.module_outputs.result (λ os told.
+        subst (AreOutputs (IsRegisterOutput laid)) (sym (told ∙ ap (λ ms. put_outputs [] (map module_output ms)) same ∙ ap (put_outputs []) (sym (by_modules laid laid.faces))))
+        (in_order laid (register_texts_differ c.requires.0 c.args.unit.now.tree laid c.requires.1.is_good))) c.module_outputs.ensures

@@ -14,4 +14,4 @@ block_texts-requires-clause-named c = is_named _ c.args.laid.now c.requires.vali
 pub returns-in-Err-Clash-clause-finds : goal.returns-in-Err-Clash-clause-finds
 returns-in-Err-Clash-clause-finds c =
     let repeat = c.block_texts.ensures.clash c.in-Err-Clash.name (cc) in
-    (_, rw c.in-Err-Clash.field-0-is at c.clash.ensures, clash_first c.args.file c.args.tree.now c.args.laid.now _ c.requires.stage repeat)
+    (_, c.clash.ensures, clash_first c.args.file c.args.tree.now c.args.laid.now _ c.requires.stage repeat)
