@@ -16,7 +16,7 @@ use Rattle.cg_gen.specs.Due.{HasReadAll, IsDue, no_command, refuses, builds}
 use Rattle.cg_gen.proofs.Planning.{read_so}
 
 -- all that was read is the description, as it is
-regtool_reads : (m : Files) (made : RegOut) (dir file : List ℕ) (reads : List Read) → GaveAll (Some m) reads → HasReadAll (Regtool made dir file) reads
+pub regtool_reads : (m : Files) (made : RegOut) (dir file : List ℕ) (reads : List Read) → GaveAll (Some m) reads → HasReadAll (Regtool made dir file) reads
     → reads ≡ read file (fin.get m file) ∷ []
 regtool_reads m made dir file reads gave has = by (read_so made dir file reads has.has_read) where
   by : (reads ≡ []) ⊎ ((g : Option (List ℕ)) × (reads ≡ read file g ∷ [])) → reads ≡ read file (fin.get m file) ∷ []
@@ -58,12 +58,12 @@ pub status_once : (words : List (List ℕ)) (m : Files) (reads others : List Rea
     → IsDue words reads d → IsDue words others e → d.status ≡ e.status
 status_once words m _ _ _ _ gave gave' (no_command none) (no_command none') = refl
 status_once words m _ _ _ _ gave gave' (no_command none) (refuses reads fault c is has first) = absurd (none c (built_of c reads fault first.violates) is)
-status_once words m _ _ _ _ gave gave' (no_command none) (builds reads c outputs is built has sound are) = absurd (none c built is)
+status_once words m _ _ _ _ gave gave' (no_command none) (builds reads c outputs is built has sound good are) = absurd (none c built is)
 status_once words m _ _ _ _ gave gave' (refuses reads fault c is has first) (no_command none) = absurd (none c (built_of c reads fault first.violates) is)
 status_once words m _ _ _ _ gave gave' (refuses reads fault c is has first) (refuses reads' fault' c' is' has' first') = refl
-status_once words m _ _ _ _ gave gave' (refuses reads fault c is has first) (builds reads' d outputs is' built has' sound are) =
+status_once words m _ _ _ _ gave gave' (refuses reads fault c is has first) (builds reads' d outputs is' built has' sound good are) =
     absurd (not_both words m c d reads reads' fault is is' built gave gave' has has' first.violates sound)
-status_once words m _ _ _ _ gave gave' (builds reads c outputs is built has sound are) (no_command none) = absurd (none c built is)
-status_once words m _ _ _ _ gave gave' (builds reads c outputs is built has sound are) (refuses reads' fault d is' has' first) =
+status_once words m _ _ _ _ gave gave' (builds reads c outputs is built has sound good are) (no_command none) = absurd (none c built is)
+status_once words m _ _ _ _ gave gave' (builds reads c outputs is built has sound good are) (refuses reads' fault d is' has' first) =
     absurd (not_both words m d c reads' reads fault is' is built gave' gave has' has first.violates sound)
-status_once words m _ _ _ _ gave gave' (builds reads c outputs is built has sound are) (builds reads' d outputs' is' built' has' sound' are') = refl
+status_once words m _ _ _ _ gave gave' (builds reads c outputs is built has sound good are) (builds reads' d outputs' is' built' has' sound' good' are') = refl

@@ -1,5 +1,5 @@
 -- What is due for the words, from what the pieces say.
-use Rattle.std.proofs.Common.{◌≡◌, ◌⊎◌, ℕ, List, [], ◌∷◌, ◌++◌, append-nil, Option, Some, None, refl, sym, ap, ◌∙◌, subst, inl, inr}
+use Rattle.std.proofs.Common.{◌≡◌, ◌⊎◌, ℕ, List, [], ◌∷◌, ◌++◌, append-nil, Option, Some, None, Result, Ok, Err, IfOk, IfErr, refl, sym, ap, ◌∙◌, subst, inl, inr}
 use Rattle.cg_base.specs.Outside.{Files, Rose, also_asked}
 use Rattle.cg_words.specs.Words.{IsCommand}
 use Rattle.cg_words.specs.declared.command.Command.{Command}
@@ -12,7 +12,10 @@ use Rattle.cg_gen.specs.Regtool as regtool
 use Rattle.cg_gen.specs.Commands.{IsBuiltCommand, NextRead}
 use Rattle.cg_gen.specs.Due.{HasRead, none, one_more, HasReadAll, IsDue, no_command, refuses, builds, due_of_no_command}
 use Rattle.cg_gen.specs.Inner as inner
-use Rattle.cg_gen.specs.Inner.{IsDueFor}
+use Rattle.cg_gen.specs.declared.given.Given.{Given}
+use Rattle.cg_gen.specs.declared.stop.Stop.{Stop}
+use Rattle.cg_gen.specs.declared.stop.Stop.TheVariants as stop
+use Rattle.cg_gen.specs.Inner.{IsDueFor, PlanEnds}
 use Rattle.cg_gen.specs.Run.{Finds, NextReadFails}
 
 -- ---- the reads of regtool
@@ -42,8 +45,8 @@ pub described_due : (words : List (List ℕ)) (made : RegOut) (dir file : List �
     → IsDueFor made dir (read file g) due → IsDue words (read file g ∷ []) due
 described_due words made dir file g due is (inner.refuses fault first same) =
     subst (IsDue words (read file g ∷ [])) (sym same) (refuses (read file g ∷ []) fault (Regtool made dir file) is (has_read made dir file g) first)
-described_due words made dir file g due is (inner.builds outputs sound are same) =
-    subst (IsDue words (read file g ∷ [])) (sym same) (builds (read file g ∷ []) (Regtool made dir file) outputs is tt (has_read made dir file g) sound are)
+described_due words made dir file g due is (inner.builds outputs sound good are same) =
+    subst (IsDue words (read file g ∷ [])) (sym same) (builds (read file g ∷ []) (Regtool made dir file) outputs is tt (has_read made dir file g) sound good are)
 
 -- the description was read, and this is due for it
 pub planned : (words : List (List ℕ)) (files : Option Files) (asked asked' : Option (List (List ℕ))) (made : RegOut) (dir file : List ℕ) (g : Option (List ℕ)) (due : Due)
@@ -81,3 +84,22 @@ usage_planned words files asked asked' due other told same =
 -- of two commands that words are, both are built or none
 pub not_built : (words : List (List ℕ)) (c : Command) → IsCommand words c → ¬ IsBuiltCommand c → (d : Command) → IsBuiltCommand d → ¬ IsCommand words d
 not_built words c is other d built also = other (subst IsBuiltCommand (one_command words d c also is) built)
+
+-- a read that was stopped
+pub read_stopped : (e : Stop) (words : List (List ℕ)) (files : Option Files) (asked asked' : Option (List (List ℕ))) (made : RegOut) (dir file : List ℕ) (faults faults' : ℕ)
+    → IsCommand words (Regtool made dir file) → asked' ≡ also_asked asked (file ∷ []) → (◌≡◌ {A = Result Given Stop} (Err e) (Err stop.Failed) → Rose faults faults')
+    → PlanEnds (Err e) words files asked asked' faults faults'
+read_stopped stop.Failed words files asked asked' made dir file faults faults' is told rose = read_failed words files asked asked' made dir file faults faults' is told (rose refl)
+read_stopped stop.Memory words files asked asked' made dir file faults faults' is told rose = tt
+
+-- the usage text, as far as memory was found
+pub usage_ends : (words : List (List ℕ)) (files : Option Files) (asked : Option (List (List ℕ))) (faults : ℕ) (r : Result Due Stop) → ((c : Command) → IsBuiltCommand c → ¬ IsCommand words c)
+    → IfOk r (λ d. d ≡ due_of_no_command) → IfErr r (λ e. e ≡ stop.Memory) → PlanEnds r words files asked asked faults faults
+usage_ends words files asked faults (Ok d) other due memory = usage_planned words files asked asked d other refl due
+usage_ends words files asked faults (Err stop.Memory) other due memory = tt
+usage_ends words files asked faults (Err stop.Failed) other due memory = absurd (let bad : stop.Failed ≡ stop.Memory = memory in cc)
+
+-- if-ok in other words
+pub if_ok : {X E : Type 0} (P Q : X → Type 0) (r : Result X E) → ((x : X) → P x → Q x) → IfOk r P → IfOk r Q
+if_ok P Q (Ok x) up is = up x is
+if_ok P Q (Err e) up is = tt

@@ -38,3 +38,9 @@ holds_large None name old new told =
 holds_large (Some m) name old new told =
     let a = told m refl in
     (Some a.0, (a.0, refl, a.2), λ n e. let same : n ≡ m = cc in ap (λ z. fin.get z name) same ∙ a.1)
+
+-- what is held was given so
+pub some_given : (held : Given) → (g : Option (List ℕ)) × IsGiven held g
+some_given given.Absent = (None, refl)
+some_given given.Large = let t = some_text 1048577 in let long : limit < length t.0 = omega (arith, t.1) in (Some t.0, (t.0, refl, long))
+some_given (given.Bytes bytes) = (Some bytes, refl)

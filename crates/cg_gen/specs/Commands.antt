@@ -23,6 +23,11 @@ abbrev pub Violates : Command → List Read → Fault → Type 0
 Violates (Regtool made dir file) reads fault = regtool.Violates reads fault
 Violates _ reads fault = ⊥
 
+-- the files that it read describe what can be built
+abbrev pub IsGood : Command → List Read → Type 0
+IsGood (Regtool made dir file) reads = regtool.IsGood reads
+IsGood _ reads = ⊥
+
 -- it writes this file into its folder
 abbrev pub IsOutput : Command → List Read → OutFile → Type 0
 IsOutput (Regtool made dir file) reads o = regtool.IsOutput made reads o

@@ -11,11 +11,12 @@ use Rattle.cg_words.specs.declared.command.Command.{Command}
 use Rattle.cg_gen.specs.declared.deed.Stream.TheVariants.{Out, Err}
 use Rattle.cg_gen.specs.declared.deed.Deed.{Deed}
 use Rattle.cg_gen.specs.declared.deed.Deed.TheVariants.{Write, Say}
+use Rattle.cg_gen.specs.declared.deed.Status.{Status}
 use Rattle.cg_gen.specs.declared.deed.Status.TheVariants.{Built, Refused, NoCommand}
 use Rattle.cg_gen.specs.declared.deed.Due.{Due}
 use Rattle.cg_gen.specs.Reads.{Read, name_of_file}
 use Rattle.cg_gen.specs.Regtool.{stored_name}
-use Rattle.cg_gen.specs.Commands.{IsBuiltCommand, NextRead, Violates, IsOutput, folder_of}
+use Rattle.cg_gen.specs.Commands.{IsBuiltCommand, NextRead, Violates, IsGood, IsOutput, folder_of}
 
 -- a text as a line
 abbrev pub line : List ℕ → List ℕ
@@ -54,13 +55,17 @@ built_line written removed = line (codes "built " ++ (decimal written ++ (codes 
 abbrev pub due_of_outputs : List ℕ → List OutFile → Due
 due_of_outputs dir outputs = record { deeds = map (write_of dir) outputs ++ (Say Out (built_line (length outputs) 0) ∷ []); status = Built }
 
+-- a line is told among the errors
+abbrev pub due_of_line : List ℕ → Status → Due
+due_of_line text status = record { deeds = Say Err text ∷ []; status = status }
+
 -- the fault's line is told
 abbrev pub due_of_fault : List Read → Fault → Due
-due_of_fault reads fault = record { deeds = Say Err (line (fault_line (name_of_file reads fault.file) fault)) ∷ []; status = Refused }
+due_of_fault reads fault = due_of_line (line (fault_line (name_of_file reads fault.file) fault)) Refused
 
 -- the usage text is told
 abbrev pub due_of_no_command : Due
-due_of_no_command = record { deeds = Say Err usage ∷ []; status = NoCommand }
+due_of_no_command = due_of_line usage NoCommand
 
 -- ---- what is due
 
@@ -71,4 +76,4 @@ pub data IsDue (words : List (List ℕ)) : List Read → Due → Type 0 where
   refuses : (reads : List Read) (fault : Fault) (c : Command) → IsCommand words c → HasReadAll c reads → IsFirstFault (Violates c reads) fault
       → IsDue words reads (due_of_fault reads fault)
   builds : (reads : List Read) (c : Command) (outputs : List OutFile) → IsCommand words c → IsBuiltCommand c → HasReadAll c reads → ((fault : Fault) → ¬ Violates c reads fault)
-      → AreOutputs (IsOutput c reads) outputs → IsDue words reads (due_of_outputs (folder_of c) outputs)
+      → IsGood c reads → AreOutputs (IsOutput c reads) outputs → IsDue words reads (due_of_outputs (folder_of c) outputs)

@@ -66,7 +66,7 @@ only_file g = record { number = 0; before = 0; given = g }
 -- what is due for a description
 pub data IsDueFor (made : RegOut) (dir : List ℕ) (r : Read) (due : Due) : Type 0 where
   refuses : (fault : Fault) → IsFirstFault (regtool.Violates (r ∷ [])) fault → due ≡ due_of_fault (r ∷ []) fault → IsDueFor made dir r due
-  builds : (outputs : List OutFile) → ((fault : Fault) → ¬ regtool.Violates (r ∷ []) fault) → AreOutputs (regtool.IsOutput made (r ∷ [])) outputs
+  builds : (outputs : List OutFile) → ((fault : Fault) → ¬ regtool.Violates (r ∷ []) fault) → regtool.IsGood (r ∷ []) → AreOutputs (regtool.IsOutput made (r ∷ [])) outputs
       → due ≡ due_of_outputs dir outputs → IsDueFor made dir r due
 
 -- ---- the plan

@@ -1,5 +1,5 @@
 -- The files that a run reads, in their order, and what a store gave for each.
-use Rattle.std.specs.Prelude.{◌≡◌, ℕ, suc, ◌+◌, List, [], ◌∷◌, map, length, Option, Some, None}
+use Rattle.std.specs.Prelude.{◌≡◌, ℕ, zero, suc, ◌+◌, List, [], ◌∷◌, map, length, Option, Some, None}
 use Rattle.std.specs.FinMap as fin
 use Rattle.cg_base.specs.Outside.{Files}
 use Rattle.cg_svspec.specs.Printable.{AllOf}
@@ -42,5 +42,5 @@ files_of reads = files_from 0 0 reads
 -- the name under which the file of this number was looked for
 abbrev pub name_of_file : List Read → ℕ → List ℕ
 name_of_file [] n = []
-name_of_file (r ∷ rs) 0 = r.name
+name_of_file (r ∷ rs) zero = r.name
 name_of_file (r ∷ rs) (suc n) = name_of_file rs n

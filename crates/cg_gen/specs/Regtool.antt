@@ -31,6 +31,14 @@ pub record Violates (reads : List Read) (fault : Fault) : Type 0 where
   pub breaks : BreaksBlock file broken
   pub is_fault : fault ≡ in_file file.number broken
 
+-- the description is of a block that breaks nothing
+pub record IsGood (reads : List Read) : Type 0 where
+  pub file : File
+  pub among : Among file (files_of reads)
+  pub tree : Tree
+  pub laid : LaidBlock
+  pub is_good : IsGoodFile file tree laid
+
 -- what is asked for: the register text of each interface, the header, or the completed description
 abbrev pub IsAskedFor : RegOut → Tree → LaidBlock → OutFile → Type 0
 IsAskedFor Registers t laid o = IsRegisterOutput laid o

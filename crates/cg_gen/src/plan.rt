@@ -1,8 +1,9 @@
 //! What is due for the words: a command has its own file, and one line here.
 
-ghost use Rattle.std.specs.Prelude.{◌≡◌, map, string_bytes, Option, List, ℕ};
+ghost use Rattle.std.specs.Prelude.{◌≡◌, map, string_bytes, IfOk, IfErr, Option, List, ℕ};
 ghost use Rattle.cg_words.specs.Words.{IsCommand};
 ghost use Rattle.cg_words.specs.declared.command.Command.TheVariants.{Regtool};
+ghost use Rattle.cg_gen.specs.Due.{due_of_no_command};
 ghost use Rattle.cg_gen.specs.Inner.{PlanEnds};
 
 use crate::deed::Due;
@@ -26,8 +27,25 @@ fn regtool<S: Store>(
     ensures same { S.content store.new ≡ S.content store.old }
     ensures changes { S.change_faults store.new ≡ S.change_faults store.old }
 {
-    let given = read_file(alloc, file, store)?;
-    Ok(regtool_due(alloc, made, dir, file, &given)?)
+    let given = match read_file(alloc, file, store) {
+        Ok(given) => given,
+        Err(stop) => return Err(stop),
+    };
+    match regtool_due(alloc, made, dir, file, &given) {
+        Ok(due) => Ok(due),
+        Err(Memory) => Err(Stop::Memory),
+    }
+}
+
+/// The usage text is due.
+fn usage(alloc: Global) -> Result<Due, Stop>
+    ensures due { IfOk result (λ d. d ≡ due_of_no_command) }
+    ensures memory { IfErr result (λ e. e ≡ Stop.Memory) }
+{
+    match usage_due(alloc) {
+        Ok(due) => Ok(due),
+        Err(Memory) => Err(Stop::Memory),
+    }
 }
 
 /// What is due for the words. Words of a command that is not built are answered like words that are none.
@@ -40,8 +58,12 @@ pub fn plan<S: Store>(alloc: Global, words: &[String], store: &mut S) -> Result<
         Ok(Command::Regtool { made, dir, file }) => {
             regtool(alloc, made, dir.as_str(), file.as_str(), store)
         }
-        Ok(_) => Ok(usage_due(alloc)?),
-        Err(WordsFault::NotCommand) => Ok(usage_due(alloc)?),
+        Ok(Command::Tlgen { .. }) => usage(alloc),
+        Ok(Command::Topgen { .. }) => usage(alloc),
+        Ok(Command::Session { .. }) => usage(alloc),
+        Ok(Command::Probe { .. }) => usage(alloc),
+        Ok(Command::Sample { .. }) => usage(alloc),
+        Err(WordsFault::NotCommand) => usage(alloc),
         Err(WordsFault::Memory) => Err(Stop::Memory),
     }
 }

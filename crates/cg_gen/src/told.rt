@@ -1,12 +1,10 @@
 //! What is due for a fault, for outputs, and for words that are no command.
 
-ghost use Rattle.std.specs.Prelude.{◌≡◌, ◌++◌, [], ◌∷◌, map, length, IfOk};
+ghost use Rattle.std.specs.Prelude.{◌≡◌, map, length, IfOk};
 ghost use Rattle.cg_desc.specs.FaultText.{fault_line};
 ghost use Rattle.cg_gen.specs.declared.deed.Status.TheVariants.{Refused};
-ghost use Rattle.cg_gen.specs.declared.deed.Stream.TheVariants.{Err as ErrStream};
-ghost use Rattle.cg_gen.specs.declared.deed.Deed.TheVariants.{Say};
 ghost use Rattle.cg_gen.specs.Regtool.{stored_name};
-ghost use Rattle.cg_gen.specs.Due.{line, usage, built_line, write_of, due_of_outputs, due_of_no_command};
+ghost use Rattle.cg_gen.specs.Due.{line, usage, built_line, write_of, due_of_line, due_of_outputs, due_of_no_command};
 
 use crate::deed::{Deed, Due, Status, Stream};
 use cg_base::{List, Memory, Text};
@@ -16,7 +14,7 @@ use std::alloc::Global;
 
 /// A single line is due.
 fn line_due(alloc: Global, line: Text, status: Status) -> Result<Due, Memory>
-    ensures { IfOk result (λ d. d ≡ record { deeds = Say ErrStream line ∷ []; status = status }) }
+    ensures { IfOk result (λ d. d ≡ due_of_line line status) }
 {
     let mut deeds = List::new(alloc);
     deeds.push(Deed::Say {
@@ -28,7 +26,7 @@ fn line_due(alloc: Global, line: Text, status: Status) -> Result<Due, Memory>
 
 /// The line of a fault is due, of the file of this name.
 pub fn fault_due(alloc: Global, file: &str, fault: &Fault) -> Result<Due, Memory>
-    ensures { IfOk result (λ d. d ≡ record { deeds = Say ErrStream (line (fault_line file.now fault.now)) ∷ []; status = Refused }) }
+    ensures { IfOk result (λ d. d ≡ due_of_line (line (fault_line file.now fault.now)) Refused) }
 {
     let mut line = fault_text(alloc, fault, file)?;
     line.add("\n")?;
