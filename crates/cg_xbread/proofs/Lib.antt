@@ -1,3 +1,10 @@
 mod SeenNames
 mod Heard
 mod Elements
+mod Tests
+mod ListFacts
+mod FirstMembers
+mod NodeNames
+mod KeyFacts
+mod NodeFacts
+mod FirstBroken

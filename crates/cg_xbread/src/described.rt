@@ -1,6 +1,7 @@
 //! The description of a crossbar that breaks no rule.
 
-ghost use Rattle.std.specs.Prelude.{◌≡◌, ◌<◌, ◌^◌, [], codes, false, IfOk, length, map, unwrap_or};
+ghost use Rattle.std.specs.Prelude.{◌≡◌, ◌<◌, ◌^◌, [], codes, false, IfOk, IfSome, length, map, position, unwrap_or};
+ghost use Rattle.std.specs.Str.{bytes_eq};
 ghost use Rattle.cg_desc.specs.Crossbar.{IsValidCrossbar};
 ghost use Rattle.cg_keys.specs.Lookups.{boolean_at, number_at, text_at};
 ghost use Rattle.cg_xbread.specs.Described.{clock_of, crossbar_of, node_of, number_of, range_of, to_of};
@@ -54,13 +55,20 @@ fn ranges_of(alloc: Global, items: &[Tree]) -> Result<List<Range>, Memory>
     Ok(ranges)
 }
 
+fn place_of(nodes: &[WrittenNode], name: &str) -> Option<usize>
+    ensures place { result ≡ position (λ node. bytes_eq node.name name.now) nodes.now }
+    ensures within { IfSome result (λ place. place < length nodes.now) }
+{
+    nodes.iter().position(|node| node.name.as_str() == name)
+}
+
 /// The number of the first node with this name.
 #[tactic(auto, unfolding(crate::specs::Described::number_of))]
 fn number_of(nodes: &[WrittenNode], name: &str) -> u32
     requires { length nodes.now < 2 ^ 32 }
     ensures { result ≡ number_of nodes.now name.now }
 {
-    match nodes.iter().position(|node| node.name.as_str() == name) {
+    match place_of(nodes, name) {
         Some(number) => number as u32,
         None => 0,
     }
