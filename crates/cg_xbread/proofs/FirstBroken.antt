@@ -1,6 +1,5 @@
 -- From the first that is found in each phase to what reading a crossbar answers.
-use Rattle.std.proofs.Common.{ℕ, ◌≡◌, ◌≤◌, List, [], length, Option, Some, None, sym, ap, ◌∙◌, subst, arith}
-use Rattle.std.specs.Prelude.{codes}
+use Rattle.std.proofs.Common.{ℕ, ◌≡◌, List, Some, None, subst}
 use Rattle.cg_desc.specs.declared.fault.DescFault.{DescFault}
 use Rattle.cg_desc.specs.declared.fault.DescFault.TheVariants.{Fault, Memory}
 use Rattle.cg_hjson.specs.declared.tree.Tree.{Tree}
@@ -71,3 +70,10 @@ refused_by_nodes e file t none refuses = refused e file t (node_rules (nodes_of 
 pub none_broken : (t : Tree) → first_of (key_faults t) ≡ None → first_of (node_rules (nodes_of t) (connections_of t)) ≡ None → (f : Finding) → ¬ Violates t f
 none_broken t keys nodes f violates =
     subst (In f) (none_is_empty (node_rules (nodes_of t) (connections_of t)) nodes) ((nodes_are_all t keys).whole f violates)
+
+-- where nothing comes first, no rule on keys is broken, and none on nodes and connections
+pub no_key : (t : Tree) → first_of (key_faults t) ≡ None → (f : Finding) → ¬ BreaksKeys t f
+no_key t keys = no_key_broken t keys
+
+pub no_node : (t : Tree) → first_of (node_rules (nodes_of t) (connections_of t)) ≡ None → (f : Finding) → ¬ BreaksNodes t f
+no_node t none f broken = subst (In f) (none_is_empty (node_rules (nodes_of t) (connections_of t)) none) (node_rules_has t f broken)

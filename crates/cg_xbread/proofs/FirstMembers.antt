@@ -1,5 +1,5 @@
 -- The first members of each key are those that a look-up finds.
-use Rattle.std.proofs.Common.{◌≡◌, ℕ, Bool, true, false, ◌||◌, cond, List, [], ◌∷◌, Option, Some, None, inl, inr, refl, sym, ap, subst, ◌∙◌}
+use Rattle.std.proofs.Common.{◌≡◌, ℕ, Bool, true, false, ◌||◌, cond, List, [], ◌∷◌, Some, inl, inr, refl, sym, ap, subst, ◌∙◌}
 use Rattle.std.proofs.lemmas.Slice.Eq.{bytes_eq-Decides}
 use Rattle.std.specs.Cmp.Lexicographic.{nat_list_eq_equiv}
 use Rattle.std.specs.List.{list_any}
@@ -8,7 +8,7 @@ use Rattle.cg_finding.specs.Finding.{Among}
 use Rattle.cg_hjson.specs.declared.tree.Tree.{Tree}
 use Rattle.cg_hjson.specs.declared.tree.Member.{Member}
 use Rattle.cg_keys.specs.Table.{value_at}
-use Rattle.cg_xbread.specs.Listed.{first_members, first_members_after}
+use Rattle.cg_xbread.specs.Listed.{first_members_after}
 
 abbrev known : List (List ℕ) → List ℕ → Bool
 known before key = list_any (bytes_eq key) before
@@ -73,3 +73,15 @@ found_is_first before (x ∷ xs) key value new there = by (λ b n h. found_is_fi
     by more false is false fresh h =
         widen x (first_members_after (x.key ∷ before) xs)
         (more (x.key ∷ before) (ap (λ b. b || known before key) (nat_list_eq_equiv.symm key x.key ∙ is) ∙ new) h)
+
+-- a first member is a member
+pub first_is_member : (before : List (List ℕ)) (ms : List Member) (m : Member) → Among m (first_members_after before ms) → Among m ms
+unfolding first_members_after
+first_is_member before [] m among = absurd among
+first_is_member before (x ∷ xs) m among = by (λ b h. first_is_member b xs m h) (known before x.key) among
+  where
+    by : ((b : List (List ℕ)) → Among m (first_members_after b xs) → Among m xs) → (b : Bool)
+        → Among m (cond b (first_members_after before xs) (x ∷ first_members_after (x.key ∷ before) xs)) → Among m (x ∷ xs)
+    by more true h = inr (more before h)
+    by more false (inl is) = inl is
+    by more false (inr h) = inr (more (x.key ∷ before) h)

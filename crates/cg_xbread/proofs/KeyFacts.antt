@@ -1,11 +1,10 @@
 -- What a crossbar breaks of the rules on keys, kinds and names is what is found.
-use Rattle.std.proofs.Common.{◌≡◌, ℕ, Bool, true, false, not, ◌||◌, cond, List, [], ◌∷◌, ◌++◌, Option, Some, None, ◌⊎◌, inl, inr, refl, sym, ap, subst, ◌∙◌}
+use Rattle.std.proofs.Common.{◌≡◌, ℕ, Bool, true, false, not, ◌||◌, cond, List, [], ◌∷◌, ◌++◌, Option, Some, None, inl, inr, refl, sym, ap, subst, ◌∙◌}
 use Rattle.std.specs.List.{flat_map, list_any}
 use Rattle.std.specs.Option.{option_map_or}
 use Rattle.std.specs.Prelude.{codes}
-use Rattle.cg_desc.specs.Crossbar.{IsNodeName}
 use Rattle.cg_desc.specs.declared.place.At.{At}
-use Rattle.cg_finding.specs.Finding.{Among, Finding, In, finding}
+use Rattle.cg_finding.specs.Finding.{Finding, In, finding}
 use Rattle.cg_finding.proofs.Members.{flat_map_has, in_either, in_flat_map, in_left, in_right, in_unless, unless_has}
 use Rattle.cg_hjson.specs.declared.tree.Tree.{Tree}
 use Rattle.cg_hjson.specs.declared.tree.Member.{Member}
@@ -109,11 +108,14 @@ in_node_faults f t among = by (object_in t) refl among
   where
     by : (o : Option (List Member)) → object_in t ≡ o → In f (in_node t o) → (inner : List Member) × (object_in t ≡ Some inner) × BreaksNode t.at inner f
     by None is h = absurd (no_members_broken f h)
-    by (Some ms) is h =
-        (ms, is, elim (in_either f (table_faults t.at ms node_keys) (node_members_faults ms) h) [
-          | inl table ↦ fact.keys (in_table_faults t.at ms node_keys f table)
-          | inr rest ↦ in_node_members t.at ms f rest
-        ])
+    by (Some ms) is h = (
+      ms,
+      is,
+      elim (in_either f (table_faults t.at ms node_keys) (node_members_faults ms) h) [
+        | inl table ↦ fact.keys (in_table_faults t.at ms node_keys f table)
+        | inr rest ↦ in_node_members t.at ms f rest
+      ],
+    )
 
 node_faults_has : (f : Finding) (t : Tree) (inner : List Member) → object_in t ≡ Some inner → BreaksNode t.at inner f → In f (node_faults t)
 unfolding node_faults object_faults

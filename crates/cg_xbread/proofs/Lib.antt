@@ -8,3 +8,8 @@ mod NodeNames
 mod KeyFacts
 mod NodeFacts
 mod FirstBroken
+mod Fitting
+mod Numbers
+mod ValidParts
+mod ValidEnds
+mod Valid

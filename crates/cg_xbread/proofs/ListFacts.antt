@@ -1,19 +1,18 @@
 -- What is found in the lists at keys, as facts.
-use Rattle.std.proofs.Common.{◌≡◌, ℕ, ◌<◌, ◌≤◌, Bool, true, false, ◌&&◌, nat_le, cond, List, [], ◌∷◌, length, Option, Some, None, refl, sym, ap, subst, ◌∙◌, arith}
+use Rattle.std.proofs.Common.{◌≡◌, ℕ, ◌<◌, false, ◌&&◌, nat_le, List, length, Option, Some, None, refl, sym, ap, subst, arith}
 use Rattle.std.specs.List.{flat_map, list_all}
 use Rattle.cg_desc.specs.declared.place.At.{At}
 use Rattle.cg_finding.specs.Finding.{Among, Finding, In, finding}
 use Rattle.cg_finding.proofs.Members.{flat_map_has, in_flat_map, in_unless, unless_has}
 use Rattle.cg_hjson.specs.declared.tree.Tree.{Tree}
 use Rattle.cg_hjson.specs.declared.tree.Member.{Member}
-use Rattle.cg_keys.specs.Elements.{each_faults, elements, in_list, in_object, item_faults, items_in, length_faults, length_wrong, list_faults, object_faults, wrong_length}
+use Rattle.cg_keys.specs.Elements.{elements, in_list, item_faults, length_faults, length_wrong, list_faults, wrong_length}
 use Rattle.cg_keys.specs.Forms.{fits}
-use Rattle.cg_keys.specs.Table.{Key, value_at}
+use Rattle.cg_keys.specs.Table.{value_at}
 use Rattle.cg_keys.specs.Values.{array_in, items_of, object_in, or_empty}
 use Rattle.cg_keys.specs.declared.forms.Form.{Form}
 use Rattle.cg_xbread.specs.Violations.{InElement, TooLong, WrongElement}
-use Rattle.cg_xbread.proofs.Tests.{Finds, all_fails, fails_all}
-use Rattle.std.proofs.lemmas.Grind.{common_steps}
+use Rattle.cg_xbread.proofs.Tests.{all_fails, fails_all}
 use Rattle.std.proofs.lemmas.Bool.Decides.{nat_tests}
 
 -- ---- elements of another form

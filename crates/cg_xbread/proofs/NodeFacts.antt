@@ -15,9 +15,8 @@ use Rattle.cg_xbread.specs.Listed.{element_faults_after, ends_faults, first_memb
 use Rattle.cg_xbread.specs.Violations as fact
 use Rattle.cg_xbread.specs.Violations.{BreaksNodes, DeviceTwice, DeviceWithoutHost, HostWithoutDevice, NodeTwice, UnknownDevice, UnknownHost}
 use Rattle.cg_xbread.specs.Written.{IsDeviceName, IsHostName, Lists, connections_of, listed, nodes_of, text_of}
-use Rattle.cg_xbread.specs.declared.written.WrittenNode.{WrittenNode}
 use Rattle.cg_xbread.proofs.FirstMembers.{First, Found, first_is_found, found_is_first}
-use Rattle.cg_xbread.proofs.Tests.{Finds, among_flat_map, among_splits, any_finds, finds_any, flat_map_among, in_middle}
+use Rattle.cg_xbread.proofs.Tests.{among_flat_map, among_splits, any_finds, finds_any, flat_map_among, in_middle}
 
 same_bytes : (a b : List ℕ) → bytes_eq a b ≡ true → a ≡ b
 same_bytes a b is = (bytes_eq-Decides a b).0 is
@@ -89,8 +88,8 @@ in_elements_after t m f there among =
   where
     by : (one : FromOneAfter (element_faults_after (nodes_of t)) [] (items_of m.value) f) (b : Bool) → is_named false (nodes_of t) (text_of one.item) ≡ b
         → In f (cond b
-          (cond (list_any (λ b. bytes_eq (text_of b) (text_of one.item)) one.front) (finding 6 50 one.item.at (text_of one.item) ∷ []) [])
-          (finding 6 51 one.item.at (text_of one.item) ∷ []))
+        (cond (list_any (λ b. bytes_eq (text_of b) (text_of one.item)) one.front) (finding 6 50 one.item.at (text_of one.item) ∷ []) [])
+        (finding 6 51 one.item.at (text_of one.item) ∷ []))
         → DeviceTwice t f ⊎ UnknownDevice t f
     by one true named h =
         let when = in_when (list_any (λ b. bytes_eq (text_of b) (text_of one.item)) one.front) f (finding 6 50 one.item.at (text_of one.item)) h in
@@ -125,11 +124,11 @@ elements_after_has_twice t f w =
     subst (λ es. In f (each_after (element_faults_after (nodes_of t)) [] es)) (sym w.stands)
     (each_after_has (element_faults_after (nodes_of t)) [] w.before w.after w.element f
     (subst (λ b. In f (cond b
-          (cond (list_any (λ b. bytes_eq (text_of b) (text_of w.element)) w.before) (finding 6 50 w.element.at (text_of w.element) ∷ []) [])
-          (finding 6 51 w.element.at (text_of w.element) ∷ [])))
-      (sym (named_device t (text_of w.element) w.device))
-      (when_has (list_any (λ b. bytes_eq (text_of b) (text_of w.element)) w.before) f (finding 6 50 w.element.at (text_of w.element))
-      (finds_any (λ b. bytes_eq (text_of b) (text_of w.element)) w.before w.earlier w.among (bytes_same (text_of w.earlier) (text_of w.element) w.same)) w.says)))
+    (cond (list_any (λ b. bytes_eq (text_of b) (text_of w.element)) w.before) (finding 6 50 w.element.at (text_of w.element) ∷ []) [])
+    (finding 6 51 w.element.at (text_of w.element) ∷ [])))
+    (sym (named_device t (text_of w.element) w.device))
+    (when_has (list_any (λ b. bytes_eq (text_of b) (text_of w.element)) w.before) f (finding 6 50 w.element.at (text_of w.element))
+    (finds_any (λ b. bytes_eq (text_of b) (text_of w.element)) w.before w.earlier w.among (bytes_same (text_of w.earlier) (text_of w.element) w.same)) w.says)))
 
 elements_after_has_unknown : (t : Tree) (f : Finding) (w : UnknownDevice t f) → In f (each_after (element_faults_after (nodes_of t)) [] (items_of w.connection.value))
 unfolding element_faults_after
@@ -138,10 +137,10 @@ elements_after_has_unknown t f w =
     subst (λ es. In f (each_after (element_faults_after (nodes_of t)) [] es)) (sym cut.splits)
     (each_after_has (element_faults_after (nodes_of t)) [] cut.front cut.back w.element f
     (subst (λ b. In f (cond b
-          (cond (list_any (λ b. bytes_eq (text_of b) (text_of w.element)) cut.front) (finding 6 50 w.element.at (text_of w.element) ∷ []) [])
-          (finding 6 51 w.element.at (text_of w.element) ∷ [])))
-      (sym (false_from_ne_true (is_named false (nodes_of t) (text_of w.element)) (λ named. w.unknown (device_named t (text_of w.element) named))))
-      (inl w.says)))
+    (cond (list_any (λ b. bytes_eq (text_of b) (text_of w.element)) cut.front) (finding 6 50 w.element.at (text_of w.element) ∷ []) [])
+    (finding 6 51 w.element.at (text_of w.element) ∷ [])))
+    (sym (false_from_ne_true (is_named false (nodes_of t) (text_of w.element)) (λ named. w.unknown (device_named t (text_of w.element) named))))
+    (inl w.says)))
 
 in_ends : (t : Tree) (f : Finding) → In f (flat_map (ends_faults (nodes_of t)) (connections_of t)) → BreaksNodes t f
 unfolding ends_faults unknown_host
@@ -242,7 +241,7 @@ lists_heard t name s = by (value_at s.host (connections_of t)) refl s.lists.amon
         let m = first.member in
         let named : is_named true (nodes_of t) m.key ≡ true = ap (is_named true (nodes_of t)) first.key_is ∙ named_host t s.host s.is_host in
         let inside : Among s.lists.element (host_elements (nodes_of t) m) =
-            subst (λ b. Among s.lists.element (cond b (items_of m.value) [])) (sym named) (subst (λ (v : Tree). Among s.lists.element (items_of v)) (sym first.value_is) h) in
+        subst (λ b. Among s.lists.element (cond b (items_of m.value) [])) (sym named) (subst (λ (v : Tree). Among s.lists.element (items_of v)) (sym first.value_is) h) in
         finds_any (λ e. bytes_eq (text_of e) name) (heard (nodes_of t) (connections_of t)) s.lists.element
         (flat_map_among (host_elements (nodes_of t)) (first_members (connections_of t)) m s.lists.element first.among inside)
         (bytes_same (text_of s.lists.element) name s.lists.named)

@@ -1,11 +1,11 @@
 -- The test of node names passes exactly the names, and pairs of names joined by a dot.
-use Rattle.std.proofs.Common.{◌≡◌, ℕ, suc, ◌+◌, ◌<◌, ◌≤◌, nat_lt, Bool, true, false, not, ◌&&◌, cond, List, [], ◌∷◌, ◌++◌, length, get_or, take, drop, ◌⊎◌, inl, inr, refl, sym, ap, subst, ◌∙◌, arith, eqb, zero-add, add_assoc}
+use Rattle.std.proofs.Common.{◌≡◌, ℕ, ◌+◌, ◌<◌, Bool, true, false, not, ◌&&◌, cond, List, [], ◌∷◌, ◌++◌, length, get_or, take, drop, inl, inr, refl, sym, ap, subst, ◌∙◌, arith, zero-add}
 use Rattle.std.specs.List.{after_first, before_first, position_or_len}
 use Rattle.std.proofs.Math.Seq.{drop-append-add, take-append_seam}
 use Rattle.std.proofs.lemmas.Bool.{eqb-true, false_from_ne_true, false≢true, and_parts, and_from, lt-ltb, ltb-true}
-use Rattle.std.proofs.lemmas.List.{append_assoc, append-nil, length-append}
+use Rattle.std.proofs.lemmas.List.{append-nil, length-append}
 use Rattle.std.proofs.lemmas.List.Sums.{passes_at_first, split_at_first}
-use Rattle.cg_svspec.specs.Characters.{Each, IsName, IsWord, is_digit, is_first, is_name_character}
+use Rattle.cg_svspec.specs.Characters.{Each, IsWord, is_first, is_name_character}
 use Rattle.cg_desc.specs.Crossbar.{IsNodeName, IsShortName}
 use Rattle.cg_keys.specs.Forms.{is_name, name_limit}
 use Rattle.cg_keys.proofs.NameTests.{is_name_tells}
@@ -64,7 +64,7 @@ test_of_one : (s : List ℕ) → IsShortName s → is_node_name s ≡ true
 unfolding is_node_name
 test_of_one s short =
     let at_end : position_or_len is_dot s ≡ length s =
-        ap (position_or_len is_dot) (sym (append-nil s)) ∙ dot_behind s [] (word_characters s short.0.0) ∙ omega arith in
+    ap (position_or_len is_dot) (sym (append-nil s)) ∙ dot_behind s [] (word_characters s short.0.0) ∙ omega arith in
     let none : has_dot s ≡ false = false_from_ne_true (has_dot s) (λ dot. let lt : position_or_len is_dot s < length s = ltb-true _ _ dot in absurd (omega arith)) in
     ap (λ b. cond b (is_name name_limit (before_first is_dot s) && is_name name_limit (after_first is_dot s)) (is_name name_limit s)) none
     ∙ test_short s short

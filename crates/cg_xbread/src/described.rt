@@ -87,7 +87,12 @@ fn numbers_of(alloc: Global, nodes: &[WrittenNode], elements: &[Tree]) -> Result
 
 /// The numbers of the devices that a node connects to.
 #[tactic(auto, unfolding(crate::specs::Described::to_of))]
-fn to_of(alloc: Global, nodes: &[WrittenNode], connections: &[Member], node: &WrittenNode) -> Result<List<u32>, Memory>
+fn to_of(
+    alloc: Global,
+    nodes: &[WrittenNode],
+    connections: &[Member],
+    node: &WrittenNode,
+) -> Result<List<u32>, Memory>
     requires { length nodes.now < 2 ^ 32 }
     ensures { IfOk result (λ to. to ≡ to_of nodes.now connections.now node.now) }
 {
@@ -100,7 +105,13 @@ fn to_of(alloc: Global, nodes: &[WrittenNode], connections: &[Member], node: &Wr
 
 /// A node, by what its members say and what is written of it.
 #[tactic(auto, unfolding(crate::specs::Described::node_of))]
-fn node_of(alloc: Global, clock: &str, nodes: &[WrittenNode], connections: &[Member], tree: &Tree) -> Result<NodeDesc, Memory>
+fn node_of(
+    alloc: Global,
+    clock: &str,
+    nodes: &[WrittenNode],
+    connections: &[Member],
+    tree: &Tree,
+) -> Result<NodeDesc, Memory>
     requires { length nodes.now < 2 ^ 32 }
     ensures { IfOk result (λ node. node ≡ node_of clock.now nodes.now connections.now tree.now) }
 {
@@ -119,7 +130,13 @@ fn node_of(alloc: Global, clock: &str, nodes: &[WrittenNode], connections: &[Mem
     })
 }
 
-fn describe_nodes(alloc: Global, clock: &str, nodes: &[WrittenNode], connections: &[Member], items: &[Tree]) -> Result<List<NodeDesc>, Memory>
+fn describe_nodes(
+    alloc: Global,
+    clock: &str,
+    nodes: &[WrittenNode],
+    connections: &[Member],
+    items: &[Tree],
+) -> Result<List<NodeDesc>, Memory>
     requires { length nodes.now < 2 ^ 32 }
     ensures { IfOk result (λ described. described ≡ map (node_of clock.now nodes.now connections.now) items.now) }
 {
@@ -132,7 +149,13 @@ fn describe_nodes(alloc: Global, clock: &str, nodes: &[WrittenNode], connections
 
 /// The description of the crossbar whose file has this number.
 #[tactic(auto, unfolding(crate::specs::Described::crossbar_of))]
-pub(crate) fn describe_crossbar(alloc: Global, tree: &Tree, nodes: &[WrittenNode], connections: &[Member], file: u32) -> Result<XbarDesc, Memory>
+pub(crate) fn describe_crossbar(
+    alloc: Global,
+    tree: &Tree,
+    nodes: &[WrittenNode],
+    connections: &[Member],
+    file: u32,
+) -> Result<XbarDesc, Memory>
     requires few { length nodes.now < 2 ^ 32 }
     requires nodes { nodes.now ≡ nodes_of tree.now }
     requires connections { connections.now ≡ connections_of tree.now }
@@ -144,7 +167,13 @@ pub(crate) fn describe_crossbar(alloc: Global, tree: &Tree, nodes: &[WrittenNode
         file,
         name: Text::of(alloc, text_at(crossbar, "name").unwrap_or(""))?,
         clock: Text::of(alloc, clock)?,
-        nodes: describe_nodes(alloc, clock, nodes, connections, elements(crossbar, "nodes"))?,
+        nodes: describe_nodes(
+            alloc,
+            clock,
+            nodes,
+            connections,
+            elements(crossbar, "nodes"),
+        )?,
         at: tree.at,
     })
 }
