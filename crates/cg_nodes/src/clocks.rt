@@ -29,9 +29,5 @@ pub(crate) fn clocks_of(alloc: Global, xbar: &XbarDesc) -> Result<List<Text>, Me
     for node in xbar.nodes.as_slice() {
         used.insert(node.clock.as_str())?;
     }
-    let mut clocks = List::new(alloc);
-    for clock in &used {
-        clocks.push(Text::of(alloc, clock)?)?;
-    }
-    Ok(clocks)
+    Ok(texts_of(alloc, used.as_slice())?)
 }

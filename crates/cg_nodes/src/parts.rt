@@ -1,8 +1,8 @@
 //! The parts of a crossbar.
 
-ghost use Rattle.std.specs.Prelude.{◌≡◌, ◌++◌, ◌<◌, ◌^◌, IfOk, OnOk, filter, false, length, nat_le, true};
-ghost use Rattle.std.specs.List.{flat_map};
-ghost use Rattle.cg_nodes.specs.Listed.{connects, device_parts, devices_of, feeders_of, has_fifo, has_join, host_parts, hosts_of, numbers_of, parts_of};
+ghost use Rattle.std.specs.Prelude.{◌≡◌, ◌==◌, ◌++◌, ◌<◌, ◌^◌, IfOk, OnOk, count_by, false, length, true};
+ghost use Rattle.std.specs.List.{flat_map, list_any};
+ghost use Rattle.cg_nodes.specs.Listed.{connects, device_parts, devices_of, has_fifo, has_join, host_parts, hosts_of, numbers_of, parts_of};
 
 use cg_base::{List, Memory};
 use cg_desc::{NodeDesc, XbarDesc};
@@ -27,13 +27,19 @@ fn numbers_of(alloc: Global, host: bool, nodes: &[NodeDesc]) -> Result<List<u32>
     ensures { IfOk result (λ numbers. numbers ≡ numbers_of host 0 nodes.now) }
 {
     let mut numbers = List::new(alloc);
-    for number in 0..nodes.len() {
-        if nodes[number].host != host {
+    for (number, node) in nodes.iter().enumerate() {
+        if node.host != host {
             continue;
         }
         numbers.push(number as u32)?;
     }
     Ok(numbers)
+}
+
+fn is_among(numbers: &[u32], number: u32) -> bool
+    ensures { result ≡ list_any (λ n. n == number) numbers.now }
+{
+    numbers.iter().any(|n| *n == number)
 }
 
 /// Whether a node has a device among those that it connects to.
@@ -42,7 +48,7 @@ fn connects(xbar: &XbarDesc, device: u32, host: u32) -> bool
     ensures { result ≡ connects xbar.now device host }
 {
     match xbar.nodes.as_slice().get(host as usize) {
-        Some(node) => node.to.as_slice().iter().any(|to| *to == device),
+        Some(node) => is_among(node.to.as_slice(), device),
         None => false,
     }
 }
@@ -58,15 +64,35 @@ fn has_fifo(xbar: &XbarDesc, node: u32) -> bool
     }
 }
 
-/// Whether at least two of the hosts connect to a device.
-fn are_two(xbar: &XbarDesc, device: u32, hosts: &[u32]) -> bool
-    ensures { result ≡ nat_le 2 (length (filter (connects xbar.now device) hosts.now)) }
+/// How many of the hosts connect to a device.
+fn feeder_count(xbar: &XbarDesc, device: u32, hosts: &[u32]) -> usize
+    ensures { result ≡ count_by (connects xbar.now device) hosts.now }
 {
     hosts
         .iter()
         .filter(|host| connects(xbar, device, **host))
         .count()
-        >= 2
+}
+
+/// Whether at least two of the hosts connect to a device.
+#[tactic(auto, unfolding(crate::specs::Listed::has_join, crate::specs::Listed::feeders_of))]
+fn has_join(xbar: &XbarDesc, device: u32, hosts: &[u32]) -> bool
+    requires { hosts.now ≡ hosts_of xbar.now }
+    ensures { result ≡ has_join xbar.now device }
+{
+    feeder_count(xbar, device, hosts) >= 2
+}
+
+/// The parts of a host.
+#[tactic(auto, unfolding(crate::specs::Listed::host_parts))]
+fn add_host_part(xbar: &XbarDesc, host: u32, parts: &mut List<Part>) -> Result<(), Memory>
+    ensures { OnOk result (parts.new ≡ parts.old ++ host_parts xbar.now host) }
+{
+    if has_fifo(xbar, host) {
+        parts.push(Part::HostFifo { host })?;
+    }
+    parts.push(Part::Split { host })?;
+    Ok(())
 }
 
 /// The parts of some hosts.
@@ -74,21 +100,23 @@ fn add_host_parts(xbar: &XbarDesc, hosts: &[u32], parts: &mut List<Part>) -> Res
     ensures { OnOk result (parts.new ≡ parts.old ++ flat_map (host_parts xbar.now) hosts.now) }
 {
     for host in hosts {
-        if has_fifo(xbar, *host) {
-            parts.push(Part::HostFifo { host: *host })?;
-        }
-        parts.push(Part::Split { host: *host })?;
+        add_host_part(xbar, *host, parts)?;
     }
     Ok(())
 }
 
 /// The parts of a device, to which some of the hosts connect.
-#[tactic(auto, unfolding(crate::specs::Listed::device_parts, crate::specs::Listed::has_join, crate::specs::Listed::feeders_of))]
-fn add_device_part(xbar: &XbarDesc, hosts: &[u32], device: u32, parts: &mut List<Part>) -> Result<(), Memory>
+#[tactic(auto, unfolding(crate::specs::Listed::device_parts))]
+fn add_device_part(
+    xbar: &XbarDesc,
+    hosts: &[u32],
+    device: u32,
+    parts: &mut List<Part>,
+) -> Result<(), Memory>
     requires { hosts.now ≡ hosts_of xbar.now }
     ensures { OnOk result (parts.new ≡ parts.old ++ device_parts xbar.now device) }
 {
-    if are_two(xbar, device, hosts) {
+    if has_join(xbar, device, hosts) {
         parts.push(Part::Join { device })?;
     }
     if has_fifo(xbar, device) {
@@ -98,7 +126,12 @@ fn add_device_part(xbar: &XbarDesc, hosts: &[u32], device: u32, parts: &mut List
 }
 
 /// The parts of some devices.
-fn add_device_parts(xbar: &XbarDesc, hosts: &[u32], devices: &[u32], parts: &mut List<Part>) -> Result<(), Memory>
+fn add_device_parts(
+    xbar: &XbarDesc,
+    hosts: &[u32],
+    devices: &[u32],
+    parts: &mut List<Part>,
+) -> Result<(), Memory>
     requires { hosts.now ≡ hosts_of xbar.now }
     ensures { OnOk result (parts.new ≡ parts.old ++ flat_map (device_parts xbar.now) devices.now) }
 {
