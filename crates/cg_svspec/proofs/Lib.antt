@@ -17,3 +17,4 @@ pub mod BitLists
 pub mod WellNames
 pub mod WellCounts
 pub mod WellSound
+pub mod OneEnd
