@@ -1,0 +1,16 @@
+pub mod Numbers
+pub mod Selects
+pub mod PartWays
+pub mod NumberLists
+pub mod Places
+pub mod Owners
+pub mod Knows
+pub mod Sums
+pub mod Steps
+pub mod Ways
+pub mod Balance
+pub mod WellLinks
+pub mod WellParts
+pub mod WellModule
+pub mod Passages
+pub mod Law

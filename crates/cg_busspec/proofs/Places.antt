@@ -1,0 +1,172 @@
+-- The nets of a crossbar's module: which are declared, which are ports, and whose they are.
+use Rattle.std.proofs.Common.{◌≡◌, ℕ, eqb, Bool, true, false, cond, arith, ◌||◌, inl, inr, List, [], ◌∷◌, ◌++◌, map, refl, ap, sym, subst, ◌∙◌}
+use Rattle.std.specs.Prelude.{flat_map, filter}
+use Rattle.std.proofs.lemmas.Bool.{eqb-true}
+use Rattle.cg_svspec.specs.Tree.{Port, Entry}
+use Rattle.cg_svspec.specs.Names.{Differ, port_names, entry_names, module_names, Among}
+use Rattle.cg_svspec.specs.Register.{input_port, output_port}
+use Rattle.cg_svspec.specs.WellFormed.{Net, Declares, port_nets}
+use Rattle.cg_svspec.specs.Links.{Link, nets_of, wire_nets}
+use Rattle.cg_svspec.proofs.NamesLemmas.{among_front, among_back}
+use Rattle.cg_busspec.specs.Crossbar.{Crossbar, IsCrossbar, hosts, devices, reach, feeders, is_in, is_joined, has_fifo}
+use Rattle.cg_busspec.specs.CrossbarModule.{h_link, f_link, l_link, m_link, d_link, socket_link, joined_link, lane, clocks, clock_port, host_ports, device_ports, crossbar_ports, link_wires, entries_if, host_wires, lane_wires, host_lanes, device_wires, join_lanes, crossbar_wires, crossbar_selects, crossbar_parts, crossbar_entries, crossbar_module}
+use Rattle.cg_busspec.proofs.NumberLists.{port_flat, port_declared, WireIn, wire_front, wire_back, wire_flat, wire_declared, declares_back}
+use Rattle.cg_busspec.proofs.PartWays.{LinksDeclared}
+
+-- all nets of the module
+abbrev pub all_nets : Crossbar → List Net
+all_nets x = nets_of (crossbar_module x)
+
+-- no name of the module stands twice
+abbrev pub NamesDiffer : Crossbar → Type 0
+NamesDiffer x = Differ (port_names (crossbar_ports x) ++ entry_names (crossbar_entries x))
+
+pub names_differ : (x : Crossbar) → Differ (module_names (crossbar_module x)) → NamesDiffer x
+unfolding crossbar_module
+names_differ x d = d
+
+-- ---- declared nets
+
+pub port_is_declared : (x : Crossbar) (p : Port) → Among p (crossbar_ports x) → Declares (all_nets x) p.name p.width
+unfolding crossbar_module
+port_is_declared x p h = port_declared p (crossbar_ports x) (wire_nets (crossbar_entries x)) h
+
+pub wire_is_declared : (x : Crossbar) (w : ℕ) (n : List ℕ) → WireIn w n (crossbar_wires x) → Declares (all_nets x) n w
+unfolding crossbar_module crossbar_entries
+wire_is_declared x w n h =
+    declares_back (port_nets (crossbar_ports x)) (wire_nets (crossbar_entries x)) n w
+    (wire_declared w n (crossbar_entries x) (wire_front w n (crossbar_wires x) (crossbar_selects x ++ crossbar_parts x) h))
+
+pub host_port_in : (x : Crossbar) (h : ℕ) (p : Port) → Among h (hosts x) → Among p (host_ports x h) → Among p (crossbar_ports x)
+unfolding crossbar_ports
+host_port_in x h p i a =
+    among_back p (map clock_port (clocks x)) (flat_map (host_ports x) (hosts x) ++ flat_map (device_ports x) (devices x))
+    (among_front p (flat_map (host_ports x) (hosts x)) (flat_map (device_ports x) (devices x)) (port_flat (host_ports x) (hosts x) h p i a))
+
+pub device_port_in : (x : Crossbar) (d : ℕ) (p : Port) → Among d (devices x) → Among p (device_ports x d) → Among p (crossbar_ports x)
+unfolding crossbar_ports
+device_port_in x d p i a =
+    among_back p (map clock_port (clocks x)) (flat_map (host_ports x) (hosts x) ++ flat_map (device_ports x) (devices x))
+    (among_back p (flat_map (host_ports x) (hosts x)) (flat_map (device_ports x) (devices x)) (port_flat (device_ports x) (devices x) d p i a))
+
+-- a wire of a host, of a pair, of a device
+pub host_wire_in : (x : Crossbar) (h w : ℕ) (n : List ℕ) → Among h (hosts x) → WireIn w n (host_wires x h) → WireIn w n (crossbar_wires x)
+host_wire_in x h w n i a = wire_front w n (flat_map (host_wires x) (hosts x)) _ (wire_flat (host_wires x) (hosts x) h w n i a)
+
+pub lane_wire_in : (x : Crossbar) (h d w : ℕ) (n : List ℕ) → Among h (hosts x) → Among d (reach x h) → WireIn w n (lane_wires x h d) → WireIn w n (crossbar_wires x)
+lane_wire_in x h d w n i j a =
+    wire_back w n (flat_map (host_wires x) (hosts x)) _ (wire_front w n (flat_map (host_lanes x) (hosts x)) (flat_map (device_wires x) (devices x))
+    (wire_flat (host_lanes x) (hosts x) h w n i (wire_flat (lane_wires x h) (reach x h) d w n j a)))
+
+pub device_wire_in : (x : Crossbar) (d w : ℕ) (n : List ℕ) → Among d (devices x) → WireIn w n (device_wires x d) → WireIn w n (crossbar_wires x)
+device_wire_in x d w n i a =
+    wire_back w n (flat_map (host_wires x) (hosts x)) _ (wire_back w n (flat_map (host_lanes x) (hosts x)) (flat_map (device_wires x) (devices x))
+    (wire_flat (device_wires x) (devices x) d w n i a))
+
+-- wires where the test holds
+if_wires : (b : Bool) (w : ℕ) (n : List ℕ) (es : List Entry) → b ≡ true → WireIn w n es → WireIn w n (entries_if b es)
+if_wires b w n es e h = subst (λ z. WireIn w n (entries_if z es)) (sym e) h
+
+-- ---- declared links
+
+pub h_declared : (x : Crossbar) (h : ℕ) → Among h (hosts x) → LinksDeclared (all_nets x) (h_link x h ∷ [])
+h_declared x h i = record {
+  requests_are = (port_is_declared x (input_port 70 (h_link x h).request) (host_port_in x h _ i (inl refl)), tt);
+  responses_are = (port_is_declared x (output_port 33 (h_link x h).response) (host_port_in x h _ i (inr (inl refl))), tt);
+}
+
+pub d_declared : (x : Crossbar) (d : ℕ) → Among d (devices x) → LinksDeclared (all_nets x) (d_link x d ∷ [])
+d_declared x d i = record {
+  requests_are = (port_is_declared x (output_port 70 (d_link x d).request) (device_port_in x d _ i (inl refl)), tt);
+  responses_are = (port_is_declared x (input_port 33 (d_link x d).response) (device_port_in x d _ i (inr (inl refl))), tt);
+}
+
+pub f_declared : (x : Crossbar) (h : ℕ) → Among h (hosts x) → has_fifo x h ≡ true → LinksDeclared (all_nets x) (f_link x h ∷ [])
+f_declared x h i e = record {
+  requests_are = (wire_is_declared x 70 (f_link x h).request (host_wire_in x h 70 _ i (if_wires (has_fifo x h) 70 _ (link_wires (f_link x h)) e (inl (refl, refl)))), tt);
+  responses_are = (wire_is_declared x 33 (f_link x h).response (host_wire_in x h 33 _ i (if_wires (has_fifo x h) 33 _ (link_wires (f_link x h)) e (inr (inl (refl, refl))))), tt);
+}
+
+pub m_declared : (x : Crossbar) (d : ℕ) → Among d (devices x) → has_fifo x d ≡ true → LinksDeclared (all_nets x) (m_link x d ∷ [])
+m_declared x d i e = record {
+  requests_are = (wire_is_declared x 70 (m_link x d).request (device_wire_in x d 70 _ i (if_wires (has_fifo x d) 70 _ (link_wires (m_link x d)) e (inl (refl, refl)))), tt);
+  responses_are = (wire_is_declared x 33 (m_link x d).response (device_wire_in x d 33 _ i (if_wires (has_fifo x d) 33 _ (link_wires (m_link x d)) e (inr (inl (refl, refl))))), tt);
+}
+
+pub l_declared : (x : Crossbar) (h d : ℕ) → Among h (hosts x) → Among d (reach x h) → is_joined x d ≡ true → LinksDeclared (all_nets x) (l_link x h d ∷ [])
+l_declared x h d i j e = record {
+  requests_are = (wire_is_declared x 70 (l_link x h d).request (lane_wire_in x h d 70 _ i j (if_wires (is_joined x d) 70 _ (link_wires (l_link x h d)) e (inl (refl, refl)))), tt);
+  responses_are = (wire_is_declared x 33 (l_link x h d).response (lane_wire_in x h d 33 _ i j (if_wires (is_joined x d) 33 _ (link_wires (l_link x h d)) e (inr (inl (refl, refl))))), tt);
+}
+
+-- a link that a test chooses
+chosen_declared : (x : Crossbar) (b : Bool) (l k : Link) → (b ≡ true → LinksDeclared (all_nets x) (l ∷ [])) → (b ≡ false → LinksDeclared (all_nets x) (k ∷ []))
+    → LinksDeclared (all_nets x) (cond b l k ∷ [])
+chosen_declared x true l k a b = a refl
+chosen_declared x false l k a b = b refl
+
+pub socket_declared : (x : Crossbar) (h : ℕ) → Among h (hosts x) → LinksDeclared (all_nets x) (socket_link x h ∷ [])
+unfolding socket_link
+socket_declared x h i = chosen_declared x (has_fifo x h) (f_link x h) (h_link x h) (f_declared x h i) (λ e. h_declared x h i)
+
+pub device_declared : (x : Crossbar) (d : ℕ) → Among d (devices x) → LinksDeclared (all_nets x) (joined_link x d ∷ [])
+unfolding joined_link
+device_declared x d i = chosen_declared x (has_fifo x d) (m_link x d) (d_link x d) (m_declared x d i) (λ e. d_declared x d i)
+
+pub lane_declared : (x : Crossbar) → IsCrossbar x → (h d : ℕ) → Among h (hosts x) → Among d (reach x h) → LinksDeclared (all_nets x) (lane x h d ∷ [])
+unfolding lane
+lane_declared x g h d i j = chosen_declared x (is_joined x d) (l_link x h d) (joined_link x d) (l_declared x h d i j) (λ e. device_declared x d (g.reaches h d i j))
+
+-- several links
+pub links_declared : (nets : List Net) (f : ℕ → Link) (is : List ℕ) → ((i : ℕ) → Among i is → LinksDeclared nets (f i ∷ [])) → LinksDeclared nets (map f is)
+links_declared nets f [] a = record { requests_are = tt; responses_are = tt }
+links_declared nets f (i ∷ is) a =
+    let first = a i (inl refl) in
+    let rest = links_declared nets f is (λ j h. a j (inr h)) in
+    record { requests_are = (first.requests_are.0, rest.requests_are); responses_are = (first.responses_are.0, rest.responses_are) }
+
+-- the hosts of a device
+pub in_by_test : (js : List ℕ) (i : ℕ) → is_in js i ≡ true → Among i js
+in_by_test [] i e = cc
+in_by_test (j ∷ js) i e = by (in_by_test js i) (eqb j i) refl e where
+  by : (is_in js i ≡ true → Among i js) → (b : Bool) → eqb j i ≡ b → (b || is_in js i) ≡ true → Among i (j ∷ js)
+  by later true same e = inl (sym (eqb-true j i same))
+  by later false same e = inr (later e)
+
+pub test_of_in : (js : List ℕ) (i : ℕ) → Among i js → is_in js i ≡ true
+test_of_in [] i h = absurd h
+test_of_in (j ∷ js) i (inl e) = rw e (same j) where
+  same : (j : ℕ) → (eqb j j || is_in js j) ≡ true
+  same j = grind arith
+test_of_in (j ∷ js) i (inr h) = rw (test_of_in js i h) (either (eqb j i)) where
+  either : (b : Bool) → (b || true) ≡ true
+  either true = refl
+  either false = refl
+
+in_filter : (p : ℕ → Bool) (is : List ℕ) (i : ℕ) → Among i (filter p is) → Among i is × (p i ≡ true)
+in_filter p [] i h = absurd h
+in_filter p (j ∷ js) i h = by (in_filter p js i) (p j) refl h where
+  by : (Among i (filter p js) → Among i js × (p i ≡ true)) → (b : Bool) → p j ≡ b → Among i (cond b (j ∷ filter p js) (filter p js)) → Among i (j ∷ js) × (p i ≡ true)
+  by later true e (inl s) = (inl s, ap p s ∙ e)
+  by later true e (inr h) = let r = later h in (inr r.0, r.1)
+  by later false e h = let r = later h in (inr r.0, r.1)
+
+filter_has : (p : ℕ → Bool) (is : List ℕ) (i : ℕ) → Among i is → p i ≡ true → Among i (filter p is)
+filter_has p [] i h e = absurd h
+filter_has p (j ∷ js) i h e = by (λ g. filter_has p js i g e) (p j) refl h where
+  by : (Among i js → Among i (filter p js)) → (b : Bool) → p j ≡ b → Among i (j ∷ js) → Among i (cond b (j ∷ filter p js) (filter p js))
+  by later true t (inl s) = inl s
+  by later true t (inr h) = inr (later h)
+  by later false t (inl s) = let u : true ≡ false = sym e ∙ ap p s ∙ t in cc
+  by later false t (inr h) = later h
+
+pub feeder_is : (x : Crossbar) (h d : ℕ) → Among h (feeders x d) → Among h (hosts x) × Among d (reach x h)
+unfolding feeders
+feeder_is x h d i = let both = in_filter (λ h. is_in (reach x h) d) (hosts x) h i in (both.0, in_by_test (reach x h) d both.1)
+
+pub feeder_has : (x : Crossbar) (h d : ℕ) → Among h (hosts x) → Among d (reach x h) → Among h (feeders x d)
+unfolding feeders
+feeder_has x h d i j = filter_has (λ h. is_in (reach x h) d) (hosts x) h i (test_of_in (reach x h) d j)
+
+pub join_declared : (x : Crossbar) (d : ℕ) → is_joined x d ≡ true → LinksDeclared (all_nets x) (join_lanes x d)
+join_declared x d e = links_declared (all_nets x) (λ h. l_link x h d) (feeders x d) (λ h i. let both = feeder_is x h d i in l_declared x h d both.0 both.1 e)

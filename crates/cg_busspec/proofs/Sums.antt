@@ -1,0 +1,144 @@
+-- Sums over hosts and devices: each pair is counted once, from either side.
+use Rattle.std.proofs.Common.{◌≡◌, ℕ, suc, ◌+◌, ◌≤◌, eqb, Bool, true, false, not, cond, arith, ◌||◌, inl, inr, List, [], ◌∷◌, length, refl, ap, sym, subst, ◌∙◌}
+use Rattle.std.specs.Prelude.{filter}
+use Rattle.std.proofs.lemmas.Bool.{eqb-true}
+use Rattle.cg_svspec.specs.Names.{Among}
+use Rattle.cg_busspec.specs.Crossbar.{Once, is_in, Node, Crossbar, IsCrossbar, numbers_of, hosts, devices, reach}
+use Rattle.cg_busspec.proofs.Places.{in_by_test}
+
+-- a sum over numbers
+abbrev pub total : (ℕ → ℕ) → List ℕ → ℕ
+total f [] = 0
+total f (i ∷ is) = f i + total f is
+
+-- a number where the test holds
+abbrev pub count_if : Bool → ℕ → ℕ
+count_if b n = cond b n 0
+
+pub total_same : (f g : ℕ → ℕ) (is : List ℕ) → ((i : ℕ) → Among i is → f i ≡ g i) → total f is ≡ total g is
+total_same f g [] e = refl
+total_same f g (i ∷ is) e = rw (e i (inl refl), total_same f g is (λ j h. e j (inr h))) refl
+
+pub total_sum : (f g : ℕ → ℕ) (is : List ℕ) → total (λ i. f i + g i) is ≡ total f is + total g is
+total_sum f g [] = omega arith
+total_sum f g (i ∷ is) = omega (arith, total_sum f g is)
+
+total_zero : (is : List ℕ) → total (λ i. 0) is ≡ 0
+total_zero [] = refl
+total_zero (i ∷ is) = omega (arith, total_zero is)
+
+-- a sum over numbers that pass a test
+pub total_filter : (p : ℕ → Bool) (f : ℕ → ℕ) (is : List ℕ) → total f (filter p is) ≡ total (λ i. count_if (p i) (f i)) is
+total_filter p f [] = refl
+total_filter p f (i ∷ is) = by (p i) (total_filter p f is) where
+  by : (b : Bool) → total f (filter p is) ≡ total (λ i. count_if (p i) (f i)) is
+      → total f (cond b (i ∷ filter p is) (filter p is)) ≡ count_if b (f i) + total (λ i. count_if (p i) (f i)) is
+  by true later = ap (λ z. f i + z) later
+  by false later = omega (arith, later)
+
+-- the sums may be taken in either order
+pub total_swap : (f : ℕ → ℕ → ℕ) (is js : List ℕ) → total (λ i. total (f i) js) is ≡ total (λ j. total (λ i. f i j) is) js
+total_swap f [] js = sym (total_zero js)
+total_swap f (i ∷ is) js = rw (total_swap f is js) (sym (total_sum (f i) (λ j. total (λ i. f i j) is) js))
+
+-- one number's part of a sum
+only_one : (f : ℕ → ℕ) (j : ℕ) (is : List ℕ) → Once is → Among j is → total (λ i. count_if (eqb j i) (f i)) is ≡ f j
+only_one f j [] o h = absurd h
+only_one f j (i ∷ is) o h = by (λ m. only_one f j is o.1 m) (eqb j i) refl h where
+  none : (is : List ℕ) → (Among j is → ⊥) → total (λ i. count_if (eqb j i) (f i)) is ≡ 0
+  none [] n = refl
+  none (k ∷ ks) n = here (eqb j k) refl (none ks (λ m. n (inr m))) where
+    here : (b : Bool) → eqb j k ≡ b → total (λ i. count_if (eqb j i) (f i)) ks ≡ 0 → count_if b (f k) + total (λ i. count_if (eqb j i) (f i)) ks ≡ 0
+    here true e z = absurd (n (inl (eqb-true j k e)))
+    here false e z = omega (arith, z)
+
+  by : (Among j is → total (λ i. count_if (eqb j i) (f i)) is ≡ f j) → (b : Bool) → eqb j i ≡ b → Among j (i ∷ is) → count_if b (f i) + total (λ i. count_if (eqb j i) (f i)) is ≡ f j
+  by later true e h =
+      let same : j ≡ i = eqb-true j i e in
+      let rest : total (λ i. count_if (eqb j i) (f i)) is ≡ 0 = none is (λ m. o.0 (subst (λ z. Among z is) same m)) in
+      let value : f j ≡ f i = ap f same in
+      omega (arith, rest, value)
+  by later false e (inl same) = absurd (itself j (subst (λ z. eqb j z ≡ false) (sym same) e)) where
+    itself : (n : ℕ) → eqb n n ≡ false → ⊥
+    itself n u = grind arith
+  by later false e (inr m) = let rest = later m in omega (arith, rest)
+
+-- a sum over some of the numbers, as one over all
+pub total_some : (f : ℕ → ℕ) (js is : List ℕ) → Once js → Once is → ((j : ℕ) → Among j js → Among j is) → total f js ≡ total (λ i. count_if (is_in js i) (f i)) is
+total_some f [] is o u all = sym (total_zero is)
+total_some f (j ∷ js) is o u all =
+    let rest = total_some f js is o.1 u (λ k m. all k (inr m)) in
+    let here = only_one f j is u (all j (inl refl)) in
+    let split : total (λ i. count_if (is_in (j ∷ js) i) (f i)) is ≡ total (λ i. count_if (eqb j i) (f i)) is + total (λ i. count_if (is_in js i) (f i)) is =
+    total_same _ (λ i. count_if (eqb j i) (f i) + count_if (is_in js i) (f i)) is (λ i m. apart i) ∙ total_sum (λ i. count_if (eqb j i) (f i)) (λ i. count_if (is_in js i) (f i)) is in
+    rw (rest, split, here) refl where
+      apart : (i : ℕ) → count_if (eqb j i || is_in js i) (f i) ≡ count_if (eqb j i) (f i) + count_if (is_in js i) (f i)
+      apart i = by (eqb j i) (is_in js i) refl refl where
+        by : (b c : Bool) → eqb j i ≡ b → is_in js i ≡ c → count_if (b || c) (f i) ≡ count_if b (f i) + count_if c (f i)
+        by true true e m = absurd (o.0 (in_by_test js j (subst (λ z. is_in js z ≡ true) (sym (eqb-true j i e)) m)))
+        by true false e m = omega arith
+        by false true e m = omega arith
+        by false false e m = omega arith
+
+-- Pairs of a host and a device, counted from the hosts or from the devices.
+pub total_pairs : (f : ℕ → ℕ → ℕ) (to : ℕ → List ℕ) (hs ds : List ℕ) → Once ds → ((h : ℕ) → Among h hs → Once (to h)) → ((h d : ℕ) → Among h hs → Among d (to h) → Among d ds)
+    → total (λ h. total (f h) (to h)) hs ≡ total (λ d. total (λ h. f h d) (filter (λ h. is_in (to h) d) hs)) ds
+total_pairs f to hs ds u once all =
+    total_same (λ h. total (f h) (to h)) (λ h. total (λ d. count_if (is_in (to h) d) (f h d)) ds) hs (λ h m. total_some (f h) (to h) ds (once h m) u (λ d k. all h d m k))
+    ∙ total_swap (λ h d. count_if (is_in (to h) d) (f h d)) hs ds
+    ∙ total_same (λ d. total (λ h. count_if (is_in (to h) d) (f h d)) hs) (λ d. total (λ h. f h d) (filter (λ h. is_in (to h) d) hs)) ds (λ d m. sym (total_filter (λ h. is_in (to h) d) (λ h. f h d) hs))
+
+-- nodes have their numbers once
+above_start : (b : Bool) (i j : ℕ) (ns : List Node) → Among j (numbers_of b i ns) → i ≤ j
+above_start b i j [] h = absurd h
+above_start b i j (n ∷ ns) h = by (above_start b (suc i) j ns) (cond b n.host (not n.host)) h where
+  by : (Among j (numbers_of b (suc i) ns) → suc i ≤ j) → (t : Bool) → Among j (cond t (i ∷ numbers_of b (suc i) ns) (numbers_of b (suc i) ns)) → i ≤ j
+  by later true (inl e) = omega (arith, e)
+  by later true (inr m) = let low = later m in omega (arith, low)
+  by later false m = let low = later m in omega (arith, low)
+
+pub numbers_once : (b : Bool) (i : ℕ) (ns : List Node) → Once (numbers_of b i ns)
+numbers_once b i [] = tt
+numbers_once b i (n ∷ ns) = by (numbers_once b (suc i) ns) (cond b n.host (not n.host)) where
+  below : Among i (numbers_of b (suc i) ns) → ⊥
+  below m = let low = above_start b (suc i) i ns m in absurd (omega (arith, low))
+
+  by : Once (numbers_of b (suc i) ns) → (t : Bool) → Once (cond t (i ∷ numbers_of b (suc i) ns) (numbers_of b (suc i) ns))
+  by later true = (below, later)
+  by later false = later
+
+-- ---- a host has at most as many devices as there are
+
+ones : (is : List ℕ) → total (λ i. 1) is ≡ length is
+ones [] = refl
+ones (i ∷ is) = omega (arith, ones is)
+
+at_most : (js is : List ℕ) → total (λ i. count_if (is_in js i) 1) is ≤ length is
+at_most js [] = omega arith
+at_most js (i ∷ is) = by (is_in js i) (at_most js is) where
+  by : (b : Bool) → total (λ i. count_if (is_in js i) 1) is ≤ length is → count_if b 1 + total (λ i. count_if (is_in js i) 1) is ≤ suc (length is)
+  by true h = omega (arith, h)
+  by false h = omega (arith, h)
+
+numbers_few : (b : Bool) (i : ℕ) (ns : List Node) → length (numbers_of b i ns) ≤ length ns
+numbers_few b i [] = omega arith
+numbers_few b i (n ∷ ns) = by (numbers_few b (suc i) ns) (cond b n.host (not n.host)) where
+  by : length (numbers_of b (suc i) ns) ≤ length ns → (t : Bool) → length (cond t (i ∷ numbers_of b (suc i) ns) (numbers_of b (suc i) ns)) ≤ suc (length ns)
+  by h true = omega (arith, h)
+  by h false = omega (arith, h)
+
+pub devices_once : (x : Crossbar) → Once (devices x)
+unfolding devices
+devices_once x = numbers_once false 0 x.nodes
+
+pub devices_few : (x : Crossbar) → length (devices x) ≤ length x.nodes
+unfolding devices
+devices_few x = numbers_few false 0 x.nodes
+
+pub hosts_few : (x : Crossbar) → length (hosts x) ≤ length x.nodes
+unfolding hosts
+hosts_few x = numbers_few true 0 x.nodes
+
+pub short : (x : Crossbar) → IsCrossbar x → (h : ℕ) → Among h (hosts x) → length (reach x h) ≤ 64
+short x c h i =
+    omega (arith, ones (reach x h), total_some (λ i. 1) (reach x h) (devices x) (c.once h i) (devices_once x) (λ d m. c.reaches h d i m), at_most (reach x h) (devices x), devices_few x, c.few)

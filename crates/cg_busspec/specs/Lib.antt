@@ -1,0 +1,5 @@
+pub mod Crossbar
+pub mod CrossbarModule
+pub mod CrossbarMeaning
+pub mod Passage
+pub mod Laws
