@@ -8,7 +8,8 @@ use Rattle.cg_svspec.specs.Tree.{Port, Entry, wire, drive, assign, inst}
 use Rattle.cg_svspec.specs.Printable.{IsSomeOf}
 use Rattle.cg_svspec.specs.WellFormed.{instance_driven, driven_by_connections, inputs_of, outputs_of}
 use Rattle.cg_svspec.specs.Links.{Link}
-use Rattle.cg_busspec.specs.Crossbar.{Crossbar, IsCrossbar, node, hosts, devices, label, reach, feeders, is_joined, has_fifo}
+use Rattle.cg_busspec.specs.Crossbar.{Crossbar, node, hosts, devices, label, reach, feeders, is_joined, has_fifo}
+use Rattle.cg_busspec.proofs.Good.{IsCrossbar}
 use Rattle.cg_busspec.specs.CrossbarModule.{h_link, f_link, l_link, m_link, d_link, sel, socket_link, joined_link, lane, clocks, clock_port, host_ports, device_ports, crossbar_ports, entries_if, link_wires, host_wires, lane_wires, host_lanes, device_wires, host_select, requests, responses, fifo_instance, split_instance, join_instance, host_fifo, host_split, device_join, device_fifo, host_parts, device_parts, join_lanes, crossbar_wires, crossbar_selects, crossbar_parts, crossbar_entries, crossbar_module}
 use Rattle.cg_busspec.proofs.PartWays.{bundle_drives}
 use Rattle.cg_busspec.proofs.NumberLists.{outputs_join}

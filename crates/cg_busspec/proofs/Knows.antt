@@ -11,7 +11,8 @@ use Rattle.cg_svspec.specs.Value.{eval}
 use Rattle.cg_svspec.proofs.NamesLemmas.{name_is_itself, same_name}
 use Rattle.cg_svspec.specs.Links.{Link, Known, is_known, are_known, learn, learn_all, known_of, number}
 use Rattle.cg_desc.specs.declared.crossbar.Range.{Range}
-use Rattle.cg_busspec.specs.Crossbar.{Crossbar, IsCrossbar, node, hosts, devices, label, reach, is_joined, has_fifo}
+use Rattle.cg_busspec.specs.Crossbar.{Crossbar, node, hosts, devices, label, reach, is_joined, has_fifo}
+use Rattle.cg_busspec.proofs.Good.{IsCrossbar}
 use Rattle.cg_busspec.specs.CrossbarModule.{power_of, range_term, range_terms, select, host_select, sel, f_link, h_link, l_link, m_link, socket_link, entries_if, link_wires, host_wires, lane_wires, host_lanes, device_wires, host_parts, device_parts, fifo_instance, split_instance, join_instance, crossbar_wires, crossbar_selects, crossbar_parts, crossbar_entries, crossbar_module}
 use Rattle.cg_busspec.proofs.PartWays.{fails}
 use Rattle.cg_busspec.proofs.Places.{NamesDiffer}

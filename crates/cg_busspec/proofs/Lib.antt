@@ -1,3 +1,4 @@
+pub mod Good
 pub mod Numbers
 pub mod Selects
 pub mod PartWays
@@ -13,4 +14,8 @@ pub mod WellLinks
 pub mod WellParts
 pub mod WellModule
 pub mod Passages
+pub mod Described
+pub mod Accepted
+pub mod Named
+pub mod Meant
 pub mod Law

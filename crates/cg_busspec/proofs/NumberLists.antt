@@ -7,8 +7,8 @@ use Rattle.cg_svspec.specs.WellFormed.{Net, Declares, port_nets, inputs_of, outp
 use Rattle.cg_svspec.proofs.NamesLemmas.{among_front, among_back, differ_front, differ_back, differ_across}
 use Rattle.cg_svspec.specs.Links.{wire_nets}
 
--- a name of one number's list is one of all
-pub among_flat : (f : ℕ → List (List ℕ)) (is : List ℕ) (i : ℕ) (n : List ℕ) → Among i is → Among n (f i) → Among n (flat_map f is)
+-- a member of one number's list is one of all
+pub among_flat : {A : Type 0} (f : ℕ → List A) (is : List ℕ) (i : ℕ) (n : A) → Among i is → Among n (f i) → Among n (flat_map f is)
 among_flat f [] i n h a = absurd h
 among_flat f (j ∷ js) i n (inl e) a = among_front n (f j) (flat_map f js) (subst (λ z. Among n (f z)) e a)
 among_flat f (j ∷ js) i n (inr h) a = among_back n (f j) (flat_map f js) (among_flat f js i n h a)
@@ -92,12 +92,6 @@ input_no_output (p ∷ ps) n d a b = by (input_no_output ps n d.1) p.input a b w
   by later false a (inr b) = later a b
 
 -- ---- ports
-
--- a port of one number's list is one of all
-pub port_flat : (f : ℕ → List Port) (is : List ℕ) (i : ℕ) (p : Port) → Among i is → Among p (f i) → Among p (flat_map f is)
-port_flat f [] i p h a = absurd h
-port_flat f (j ∷ js) i p (inl e) a = among_front p (f j) (flat_map f js) (subst (λ z. Among p (f z)) e a)
-port_flat f (j ∷ js) i p (inr h) a = among_back p (f j) (flat_map f js) (port_flat f js i p h a)
 
 -- it is declared
 pub port_declared : (p : Port) (ps : List Port) (others : List Net) → Among p ps → Declares (port_nets ps ++ others) p.name p.width

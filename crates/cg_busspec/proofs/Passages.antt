@@ -8,9 +8,11 @@ use Rattle.cg_svspec.specs.Tree.{Connection, Parameter, inst, Module}
 use Rattle.cg_svspec.proofs.NamesLemmas.{name_is_itself}
 use Rattle.cg_svspec.specs.Links.{Link, Onward, to, stuck, to_link, inside, number}
 use Rattle.cg_svspec.specs.Walk.{End, error, Place, within, same_place, Position, position, was_at, held_at, step_within, module_named, next, Way, goes, ended}
-use Rattle.cg_busspec.specs.Crossbar.{Crossbar, IsCrossbar, node, hosts, devices, reach, is_joined, has_fifo, some_holds}
+use Rattle.cg_busspec.specs.Crossbar.{Crossbar, node, hosts, devices, reach, is_joined, has_fifo, some_holds}
+use Rattle.cg_busspec.proofs.Good.{IsCrossbar}
 use Rattle.cg_busspec.specs.CrossbarModule.{h_link, f_link, l_link, m_link, d_link, socket_link, joined_link, lane, crossbar_module}
-use Rattle.cg_busspec.specs.Passage.{Passes, out, ends_here, over, Carries}
+use Rattle.cg_busspec.specs.Passage.{Passes, out, ends_here, over}
+use Rattle.cg_busspec.proofs.Good.{Leads}
 use Rattle.cg_busspec.proofs.Places.{NamesDiffer, names_differ}
 use Rattle.cg_busspec.proofs.Selects.{address_bits, first_with}
 use Rattle.cg_busspec.proofs.Steps.{over_host_fifo, over_split, over_join, over_device_fifo, at_device}
@@ -80,11 +82,11 @@ from_host x n h request o i rest true fifo =
     (rest ((h_link x h).request ∷ []) (subst (λ z. Early (z.request ∷ ((h_link x h).request ∷ []))) (sym same) (record { no_l = λ n. refl; no_m = λ n. refl; no_d = λ n. refl }))))
 
 -- The way inside a crossbar's module.
-pub crossbar_carries : (x : Crossbar) → IsCrossbar x → Differ (module_names (crossbar_module x)) → Carries (crossbar_module x) x
-crossbar_carries x c d =
+pub crossbar_leads : (x : Crossbar) → IsCrossbar x → Differ (module_names (crossbar_module x)) → Leads (crossbar_module x) x
+crossbar_leads x c d =
     let n = names_differ x d in
     record {
-      carries = λ h e request i j long has. from_host x n h request (Some (d_link x e)) i (λ held f. from_socket x c n h e request held i j long has f) (has_fifo x h) refl;
+      leads = λ h e request i j long has. from_host x n h request (Some (d_link x e)) i (λ held f. from_socket x c n h e request held i j long has f) (has_fifo x h) refl;
       stops = λ h request i long all. from_host x n h request None i
           (λ held f. ends_here (split_step x c n h request held i long ∙ ap to_link (no_device x (number (address_bits request)) (lane x h) (reach x h) all))) (has_fifo x h) refl;
     }

@@ -8,9 +8,10 @@ use Rattle.cg_svspec.specs.Register.{input_port, output_port}
 use Rattle.cg_svspec.specs.WellFormed.{Net, Declares, port_nets}
 use Rattle.cg_svspec.specs.Links.{Link, nets_of, wire_nets}
 use Rattle.cg_svspec.proofs.NamesLemmas.{among_front, among_back}
-use Rattle.cg_busspec.specs.Crossbar.{Crossbar, IsCrossbar, hosts, devices, reach, feeders, is_in, is_joined, has_fifo}
+use Rattle.cg_busspec.specs.Crossbar.{Crossbar, hosts, devices, reach, feeders, is_in, is_joined, has_fifo}
+use Rattle.cg_busspec.proofs.Good.{IsCrossbar}
 use Rattle.cg_busspec.specs.CrossbarModule.{h_link, f_link, l_link, m_link, d_link, socket_link, joined_link, lane, clocks, clock_port, host_ports, device_ports, crossbar_ports, link_wires, entries_if, host_wires, lane_wires, host_lanes, device_wires, join_lanes, crossbar_wires, crossbar_selects, crossbar_parts, crossbar_entries, crossbar_module}
-use Rattle.cg_busspec.proofs.NumberLists.{port_flat, port_declared, WireIn, wire_front, wire_back, wire_flat, wire_declared, declares_back}
+use Rattle.cg_busspec.proofs.NumberLists.{among_flat, port_declared, WireIn, wire_front, wire_back, wire_flat, wire_declared, declares_back}
 use Rattle.cg_busspec.proofs.PartWays.{LinksDeclared}
 
 -- all nets of the module
@@ -41,13 +42,13 @@ pub host_port_in : (x : Crossbar) (h : ℕ) (p : Port) → Among h (hosts x) →
 unfolding crossbar_ports
 host_port_in x h p i a =
     among_back p (map clock_port (clocks x)) (flat_map (host_ports x) (hosts x) ++ flat_map (device_ports x) (devices x))
-    (among_front p (flat_map (host_ports x) (hosts x)) (flat_map (device_ports x) (devices x)) (port_flat (host_ports x) (hosts x) h p i a))
+    (among_front p (flat_map (host_ports x) (hosts x)) (flat_map (device_ports x) (devices x)) (among_flat (host_ports x) (hosts x) h p i a))
 
 pub device_port_in : (x : Crossbar) (d : ℕ) (p : Port) → Among d (devices x) → Among p (device_ports x d) → Among p (crossbar_ports x)
 unfolding crossbar_ports
 device_port_in x d p i a =
     among_back p (map clock_port (clocks x)) (flat_map (host_ports x) (hosts x) ++ flat_map (device_ports x) (devices x))
-    (among_back p (flat_map (host_ports x) (hosts x)) (flat_map (device_ports x) (devices x)) (port_flat (device_ports x) (devices x) d p i a))
+    (among_back p (flat_map (host_ports x) (hosts x)) (flat_map (device_ports x) (devices x)) (among_flat (device_ports x) (devices x) d p i a))
 
 -- a wire of a host, of a pair, of a device
 pub host_wire_in : (x : Crossbar) (h w : ℕ) (n : List ℕ) → Among h (hosts x) → WireIn w n (host_wires x h) → WireIn w n (crossbar_wires x)

@@ -17,7 +17,8 @@ use Rattle.cg_svspec.specs.Printable.{AllOf}
 use Rattle.cg_svspec.specs.Value.{Values, eval, eval_parts}
 use Rattle.cg_svspec.specs.Links.{number}
 use Rattle.cg_desc.specs.declared.crossbar.Range.{Range}
-use Rattle.cg_busspec.specs.Crossbar.{Crossbar, node, holds, some_holds, IsRange}
+use Rattle.cg_busspec.specs.Crossbar.{Crossbar, node, holds, some_holds}
+use Rattle.cg_busspec.specs.Ranges.{IsRange}
 use Rattle.cg_busspec.specs.CrossbarModule.{halvings, power_of, range_term, range_terms, select}
 use Rattle.cg_svspec.proofs.BitLists.{any_bit-append, any_bit-one, same_bits-bits, drop-bits}
 use Rattle.cg_busspec.proofs.Numbers.{bits-number, number_small, halvings-power, block_holds}

@@ -7,7 +7,8 @@ use Rattle.cg_svspec.specs.Tree.{net, Entry}
 use Rattle.cg_svspec.specs.Names.{is_among, Among}
 use Rattle.cg_svspec.specs.WellFormed.{Net}
 use Rattle.cg_svspec.specs.Links.{Link, Known, to, leaves, to_link, inside, known_of, number, selected}
-use Rattle.cg_busspec.specs.Crossbar.{Crossbar, IsCrossbar, node, hosts, devices, label, reach, feeders, is_joined, has_fifo, some_holds}
+use Rattle.cg_busspec.specs.Crossbar.{Crossbar, node, hosts, devices, label, reach, feeders, is_joined, has_fifo, some_holds}
+use Rattle.cg_busspec.proofs.Good.{IsCrossbar}
 use Rattle.cg_busspec.specs.CrossbarModule.{h_link, f_link, l_link, m_link, d_link, sel, socket_link, joined_link, lane, entries_if, link_wires, host_wires, lane_wires, host_lanes, device_wires, host_select, host_fifo, host_split, device_join, device_fifo, host_parts, device_parts, join_lanes, requests, crossbar_wires, crossbar_selects, crossbar_parts, crossbar_entries, crossbar_module}
 use Rattle.cg_busspec.proofs.PartWays.{through, Skips, skips_join, skips_if, skips_flat, through_flat, fifo_skips, fifo_goes, split_skips, split_goes, join_skips, join_goes}
 use Rattle.cg_busspec.proofs.Places.{NamesDiffer, all_nets, h_declared, d_declared, f_declared, m_declared, socket_declared, device_declared, lane_declared, links_declared, feeder_is, feeder_has, join_declared}

@@ -1,9 +1,11 @@
 -- Sums over hosts and devices: each pair is counted once, from either side.
-use Rattle.std.proofs.Common.{◌≡◌, ℕ, suc, ◌+◌, ◌≤◌, eqb, Bool, true, false, not, cond, arith, ◌||◌, inl, inr, List, [], ◌∷◌, length, refl, ap, sym, subst, ◌∙◌}
+use Rattle.std.proofs.Common.{◌≡◌, ℕ, zero, suc, ◌+◌, ◌≤◌, ◌<◌, eqb, Bool, true, false, not, cond, arith, ◌||◌, inl, inr, List, [], ◌∷◌, length, refl, ap, sym, subst, ◌∙◌}
 use Rattle.std.specs.Prelude.{filter}
+use Rattle.std.proofs.lemmas.Bool.Decides.{nat_tests}
 use Rattle.std.proofs.lemmas.Bool.{eqb-true}
 use Rattle.cg_svspec.specs.Names.{Among}
-use Rattle.cg_busspec.specs.Crossbar.{Once, is_in, Node, Crossbar, IsCrossbar, numbers_of, hosts, devices, reach}
+use Rattle.cg_busspec.specs.Crossbar.{is_in, Node, Crossbar, numbers_of, hosts, devices, reach}
+use Rattle.cg_busspec.proofs.Good.{Once, IsCrossbar}
 use Rattle.cg_busspec.proofs.Places.{in_by_test}
 
 -- a sum over numbers
@@ -120,6 +122,46 @@ at_most js (i ∷ is) = by (is_in js i) (at_most js is) where
   by true h = omega (arith, h)
   by false h = omega (arith, h)
 
+-- A list in which no number stands twice is no longer than one that has all of its numbers, each once.
+pub no_longer : (js is : List ℕ) → Once js → Once is → ((j : ℕ) → Among j js → Among j is) → length js ≤ length is
+no_longer js is o u all = omega (arith, ones js, total_some (λ i. 1) js is o u all, at_most js is)
+
+-- the numbers below n
+upto : ℕ → List ℕ
+upto zero = []
+upto (suc n) = n ∷ upto n
+
+-- they are below it
+upto_below : (n i : ℕ) → Among i (upto n) → i < n
+unfolding upto
+upto_below zero i a = absurd a
+upto_below (suc n) i (inl e) = omega (arith, e)
+upto_below (suc n) i (inr a) = omega (arith, upto_below n i a)
+
+-- each once
+upto_once : (n : ℕ) → Once (upto n)
+unfolding upto
+upto_once zero = tt
+upto_once (suc n) = (λ a. absurd (omega (arith, upto_below n n a)), upto_once n)
+
+-- and all of them
+upto_has : (n i : ℕ) → i < n → Among i (upto n)
+unfolding upto
+upto_has zero i h = absurd (omega (arith, h))
+upto_has (suc n) i h = by (eqb i n) refl (upto_has n i) where
+  by : (b : Bool) → eqb i n ≡ b → (i < n → Among i (upto n)) → Among i (n ∷ upto n)
+  by true e later = inl (eqb-true i n e)
+  by false e later = inr (later (grind (arith, nat_tests)))
+
+upto_long : (n : ℕ) → length (upto n) ≡ n
+unfolding upto
+upto_long zero = refl
+upto_long (suc n) = ap suc (upto_long n)
+
+-- There are at most n different numbers below n.
+pub at_most_below : (n : ℕ) (js : List ℕ) → Once js → ((j : ℕ) → Among j js → j < n) → length js ≤ n
+at_most_below n js o below = omega (arith, no_longer js (upto n) o (upto_once n) (λ j a. upto_has n j (below j a)), upto_long n)
+
 numbers_few : (b : Bool) (i : ℕ) (ns : List Node) → length (numbers_of b i ns) ≤ length ns
 numbers_few b i [] = omega arith
 numbers_few b i (n ∷ ns) = by (numbers_few b (suc i) ns) (cond b n.host (not n.host)) where
@@ -141,4 +183,4 @@ hosts_few x = numbers_few true 0 x.nodes
 
 pub short : (x : Crossbar) → IsCrossbar x → (h : ℕ) → Among h (hosts x) → length (reach x h) ≤ 64
 short x c h i =
-    omega (arith, ones (reach x h), total_some (λ i. 1) (reach x h) (devices x) (c.once h i) (devices_once x) (λ d m. c.reaches h d i m), at_most (reach x h) (devices x), devices_few x, c.few)
+    omega (arith, no_longer (reach x h) (devices x) (c.once h i) (devices_once x) (λ d m. c.reaches h d i m), devices_few x, c.few)

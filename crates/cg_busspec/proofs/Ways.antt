@@ -12,9 +12,10 @@ use Rattle.cg_svspec.specs.WellFormed.{inputs_of, ends_with}
 use Rattle.cg_svspec.proofs.NamesLemmas.{name_is_itself, same_name, test_of_among}
 use Rattle.cg_svspec.specs.Links.{host_link, Link, link, to, to_link, inside, answer_to, has_port, comes_in, goes_out, port_number, number}
 use Rattle.cg_svspec.specs.Walk.{Next, host_crossbar, End, outside, error, alone, Position, position, was_at, held_at, on, ends, step_alone, next, Way, goes, ended, start, walks}
-use Rattle.cg_busspec.specs.Crossbar.{Crossbar, IsCrossbar, node, hosts, devices, label, reach, is_joined, has_fifo, some_holds}
+use Rattle.cg_busspec.specs.Crossbar.{Crossbar, node, hosts, devices, label, reach, is_joined, has_fifo, some_holds}
+use Rattle.cg_busspec.proofs.Good.{IsCrossbar}
 use Rattle.cg_busspec.specs.CrossbarModule.{h_link, f_link, l_link, m_link, d_link, socket_link, joined_link, lane, crossbar_ports, crossbar_module}
-use Rattle.cg_busspec.specs.CrossbarMeaning.{Routes}
+use Rattle.cg_busspec.proofs.Good.{Ends}
 use Rattle.cg_busspec.proofs.PartWays.{label_is}
 use Rattle.cg_busspec.proofs.Places.{NamesDiffer, names_differ, host_port_in, device_port_in}
 use Rattle.cg_busspec.proofs.Owners.{ports_differ, input_among}
@@ -262,7 +263,7 @@ unfolding crossbar_module
 port_number_is x n d i = number_found (output_port 70 (d_link x d).request) (crossbar_ports x) (ports_differ x n) (device_port_in x d _ i (inl refl))
 
 -- Where requests end.
-pub crossbar_routes : (x : Crossbar) → IsCrossbar x → Differ (module_names (crossbar_module x)) → Routes (crossbar_module x) x
+pub crossbar_routes : (x : Crossbar) → IsCrossbar x → Differ (module_names (crossbar_module x)) → Ends (crossbar_module x) x
 crossbar_routes x c d =
     let n = names_differ x d in
     record {

@@ -9,7 +9,8 @@ use Rattle.cg_svspec.specs.WellFormed.{Declares, port_nets}
 use Rattle.cg_svspec.proofs.NamesLemmas.{among_by_test, among_front}
 use Rattle.cg_svspec.proofs.Runs.{each_passes}
 use Rattle.cg_svspec.specs.Links.{Link, spelled}
-use Rattle.cg_busspec.specs.Crossbar.{Node, Crossbar, IsCrossbar, IsNode, is_node_character, node_at, numbers_of, node, hosts, devices, label}
+use Rattle.cg_busspec.specs.Crossbar.{Node, Crossbar, node_at, numbers_of, node, hosts, devices, label}
+use Rattle.cg_busspec.proofs.Good.{IsCrossbar, IsNode, is_node_character}
 use Rattle.cg_busspec.specs.CrossbarModule.{link_named, h_link, f_link, l_link, m_link, d_link, sel, clock_net, new_clocks, clocks, clock_port, host_ports, device_ports, crossbar_ports}
 use Rattle.cg_busspec.proofs.PartWays.{label_is}
 use Rattle.cg_svspec.proofs.WellNames.{prefix_name, each_join}

@@ -10,7 +10,8 @@ use Rattle.cg_svspec.specs.Register.{input_port, output_port}
 use Rattle.cg_svspec.specs.WellFormed.{port_nets, inputs_of, outputs_of, instance_driven, WellFormed}
 use Rattle.cg_svspec.proofs.NamesLemmas.{among_front, among_back}
 use Rattle.cg_svspec.specs.Links.{Link}
-use Rattle.cg_busspec.specs.Crossbar.{Crossbar, IsCrossbar, node, hosts, devices, label, reach, feeders, is_in, is_joined, has_fifo}
+use Rattle.cg_busspec.specs.Crossbar.{Crossbar, node, hosts, devices, label, reach, feeders, is_in, is_joined, has_fifo}
+use Rattle.cg_busspec.proofs.Good.{IsCrossbar}
 use Rattle.cg_busspec.specs.CrossbarModule.{h_link, f_link, l_link, m_link, d_link, sel, clock_net, socket_link, joined_link, lane, clocks, clock_port, crossbar_ports, entries_if, link_wires, host_wires, lane_wires, host_lanes, device_wires, host_select, fifo_instance, split_instance, join_instance, host_fifo, host_split, device_join, device_fifo, host_parts, device_parts, join_lanes, crossbar_wires, crossbar_selects, crossbar_parts, crossbar_entries, crossbar_module}
 use Rattle.cg_busspec.proofs.NumberLists.{WireIn, wire_front}
 use Rattle.cg_busspec.proofs.Places.{host_port_in, device_port_in, host_wire_in, lane_wire_in, device_wire_in, feeder_is}

@@ -11,7 +11,8 @@ use Rattle.cg_svspec.specs.Tree.{net, cut, lit, cat, equal, none, expressions, E
 use Rattle.cg_svspec.proofs.NamesLemmas.{none_repeats}
 use Rattle.cg_svspec.specs.Links.{Link}
 use Rattle.cg_desc.specs.declared.crossbar.Range.{Range}
-use Rattle.cg_busspec.specs.Crossbar.{Crossbar, IsRange, node}
+use Rattle.cg_busspec.specs.Crossbar.{Crossbar, node}
+use Rattle.cg_busspec.specs.Ranges.{IsRange}
 use Rattle.cg_busspec.specs.CrossbarModule.{clock_net, range_term, range_terms, select, bundle, requests, responses, fifo_instance, split_instance, join_instance}
 use Rattle.cg_busspec.proofs.Selects.{power_is, power_few}
 use Rattle.cg_svspec.proofs.WellNames.{literal_name}

@@ -1,9 +1,6 @@
 -- Crossbars as their modules are made of them: nodes by their numbers, with the ranges that count, and which parts stand at each.
-use Rattle.std.specs.Prelude.{◌≡◌, ℕ, zero, suc, ◌+◌, ◌*◌, ◌^◌, ◌≤◌, ◌<◌, eqb, leb, ltb, Bool, true, false, not, cond, ◌&&◌, ◌||◌, List, [], ◌∷◌, length, filter, flat_map, codes}
+use Rattle.std.specs.Prelude.{ℕ, zero, suc, ◌+◌, eqb, leb, ltb, Bool, true, false, not, cond, ◌&&◌, ◌||◌, List, [], ◌∷◌, length, filter, flat_map, codes}
 use Rattle.std.specs.Str.{bytes_eq}
-use Rattle.cg_svspec.specs.Characters.{is_name_character, Each}
-use Rattle.cg_svspec.specs.Names.{Among}
-use Rattle.cg_svspec.specs.Printable.{AllOf, IsSomeOf}
 use Rattle.cg_desc.specs.declared.crossbar.Range.{Range}
 use Rattle.cg_desc.specs.declared.crossbar.NodeDesc.{NodeDesc}
 use Rattle.cg_desc.specs.declared.crossbar.NodeRanges.{NodeRanges}
@@ -26,11 +23,20 @@ pub record Crossbar : Type 0 where
 abbrev pub node_of : NodeDesc → List Range → Node
 node_of node rs = record { name = node.name; host = node.host; clock = node.clock; to = node.to; ranges = rs }
 
+-- the ranges at the first place
+abbrev pub first_ranges : List NodeRanges → List Range
+first_ranges [] = []
+first_ranges (rs ∷ ranges) = rs.ranges
+
+-- and those behind it
+abbrev pub later_ranges : List NodeRanges → List NodeRanges
+later_ranges [] = []
+later_ranges (rs ∷ ranges) = ranges
+
 -- each described node with the ranges that stand at its place
 abbrev pub nodes_of : List NodeDesc → List NodeRanges → List Node
 nodes_of [] ranges = []
-nodes_of (node ∷ nodes) [] = node_of node [] ∷ nodes_of nodes []
-nodes_of (node ∷ nodes) (rs ∷ ranges) = node_of node rs.ranges ∷ nodes_of nodes ranges
+nodes_of (node ∷ nodes) ranges = node_of node (first_ranges ranges) ∷ nodes_of nodes (later_ranges ranges)
 
 -- a described crossbar, with the ranges of each of its nodes that count
 abbrev pub crossbar_of : XbarDesc → List NodeRanges → Crossbar
@@ -73,11 +79,6 @@ abbrev pub is_in : List ℕ → ℕ → Bool
 is_in [] i = false
 is_in (j ∷ js) i = eqb j i || is_in js i
 
--- no number stands twice
-abbrev pub Once : List ℕ → Type 0
-Once [] = Unit {0}
-Once (i ∷ is) = (Among i is → ⊥) × Once is
-
 -- the devices that a host connects to, in its order
 unfoldable pub reach : Crossbar → ℕ → List ℕ
 reach x h = (node x h).to
@@ -106,37 +107,3 @@ holds a r = leb r.base a && ltb a (r.base + r.size)
 abbrev pub some_holds : ℕ → List Range → Bool
 some_holds a [] = false
 some_holds a (r ∷ rs) = holds a r || some_holds a rs
-
--- A range's size is a power of two and at least 4, its base is a multiple of its size, and its end is at most 2^32.
-pub record IsRange (r : Range) : Type 0 where
-  pub power : ℕ
-  pub size_is : r.size ≡ 2 ^ power
-  pub some : 2 ≤ power
-  pub turn : ℕ
-  pub aligned : r.base ≡ 2 ^ power * turn
-  pub ends : r.base + r.size ≤ 2 ^ 32
-
--- ---- good crossbars
-
--- what node names have: letters, digits, underscores and dots
-abbrev pub is_node_character : ℕ → Bool
-is_node_character c = is_name_character c || eqb c 46
-
-abbrev pub IsNode : Node → Type 0
-IsNode n = Each is_node_character n.name × Each is_name_character n.clock
-
--- What a crossbar needs for its module to be one: characters of names, connections from each host to some devices and to none twice, some
--- host and some ranges of good shape at each device, and no address that two devices of a host have together.
-pub record IsCrossbar (x : Crossbar) : Type 0 where
-  pub name : Each is_name_character x.name
-  pub clock : Each is_name_character x.clock
-  pub nodes : AllOf IsNode x.nodes
-  pub few : length x.nodes ≤ 64
-  pub reaches : (h d : ℕ) → Among h (hosts x) → Among d (reach x h) → Among d (devices x)
-  pub once : (h : ℕ) → Among h (hosts x) → Once (reach x h)
-  pub some_device : (h : ℕ) → Among h (hosts x) → IsSomeOf (reach x h)
-  pub some_host : (d : ℕ) → Among d (devices x) → IsSomeOf (feeders x d)
-  pub ranges : (d : ℕ) → Among d (devices x) → AllOf IsRange (node x d).ranges
-  pub some_range : (d : ℕ) → Among d (devices x) → IsSomeOf (node x d).ranges
-  pub few_ranges : (d : ℕ) → Among d (devices x) → length (node x d).ranges < 2 ^ 32
-  pub apart : (h d e a : ℕ) → Among h (hosts x) → Among d (reach x h) → Among e (reach x h) → some_holds a (node x d).ranges ≡ true → some_holds a (node x e).ranges ≡ true → d ≡ e

@@ -1,20 +1,16 @@
--- The laws of walks and of crossbars' modules.
-use Rattle.std.specs.Prelude.{◌≡◌, None}
+-- The law of crossbars' modules.
+use Rattle.std.specs.Prelude.{◌≡◌, List, None}
 use Rattle.cg_svspec.specs.Names.{module_names, first_repeat}
-use Rattle.cg_svspec.specs.Tree.{Module}
-use Rattle.cg_svspec.specs.WellFormed.{WellFormed}
-use Rattle.cg_busspec.specs.Crossbar.{Crossbar, IsCrossbar}
+use Rattle.cg_desc.specs.Crossbar.{IsValidCrossbar}
+use Rattle.cg_desc.specs.declared.crossbar.NodeRanges.{NodeRanges}
+use Rattle.cg_desc.specs.declared.crossbar.XbarDesc.{XbarDesc}
+use Rattle.cg_busspec.specs.Crossbar.{crossbar_of}
 use Rattle.cg_busspec.specs.CrossbarModule.{crossbar_module}
-use Rattle.cg_busspec.specs.CrossbarMeaning.{Routes}
-use Rattle.cg_busspec.specs.Passage.{Carries}
+use Rattle.cg_busspec.specs.CrossbarMeaning.{CrossbarMeans}
+use Rattle.cg_busspec.specs.Ranges.{AreRangesOf}
 
--- The module is well formed, and every request of every host ends where the description says.
-pub record CrossbarMeans (m : Module) (x : Crossbar) : Type 0 where
-  pub well_formed : WellFormed m
-  pub routes : Routes m x
-  -- the same inside the module alone, wherever it stands
-  pub carries : Carries m x
-
--- the module of a crossbar, in which no name repeats, is the crossbar
+-- The module of a valid crossbar with its ranges, in which no name repeats, is the crossbar.
 abbrev pub CrossbarModuleMeans : Type 0
-CrossbarModuleMeans = (x : Crossbar) → IsCrossbar x → first_repeat (module_names (crossbar_module x)) ≡ None → CrossbarMeans (crossbar_module x) x
+CrossbarModuleMeans =
+    (x : XbarDesc) (ranges : List NodeRanges) → IsValidCrossbar x → AreRangesOf x ranges → first_repeat (module_names (crossbar_module (crossbar_of x ranges))) ≡ None
+    → CrossbarMeans (crossbar_module (crossbar_of x ranges)) x ranges

@@ -1,5 +1,6 @@
+pub mod Ranges
 pub mod Crossbar
 pub mod CrossbarModule
-pub mod CrossbarMeaning
 pub mod Passage
+pub mod CrossbarMeaning
 pub mod Laws

@@ -28,6 +28,10 @@ spelled (c ∷ cs) = cond (eqb c 46) (95 ∷ 95 ∷ spelled cs) (c ∷ spelled c
 abbrev pub host_link : List ℕ → Link
 host_link host = link (codes "h_" ++ (spelled host ++ codes "_req")) (codes "h_" ++ (spelled host ++ codes "_rsp"))
 
+-- and of a device
+abbrev pub device_link : List ℕ → Link
+device_link device = link (codes "d_" ++ (spelled device ++ codes "_req")) (codes "d_" ++ (spelled device ++ codes "_rsp"))
+
 -- `P_rsp` for `P_req`
 abbrev pub answer_to : List ℕ → List ℕ
 answer_to q = take (length q - 4) q ++ codes "_rsp"

@@ -275,8 +275,12 @@ pub record WellFormed (m : Module) : Type 0 where
   pub wires_driven : AllAmong (wires_of m.entries) (drivers_of m)
   pub inputs_free : NoneAmong (inputs_of m.ports) (drivers_of m)
 
--- A well-formed module has a valuation for all inputs and all values of the nets that instances drive, its states among them.
-abbrev pub ModuleHasValuation : Type 0
-ModuleHasValuation =
-    (m : Module) → WellFormed m → (inputs given : Values)
+-- the module has a valuation for all inputs and all values of the nets that instances drive, its states among them
+abbrev pub HasValuation : Module → Type 0
+HasValuation m =
+    (inputs given : Values)
     → (v : Values) × (next : Values) × Valuation m inputs given v next × ((n : List ℕ) → Among n (instance_driven (inputs_of m.ports) m.entries) → v n ≡ given n)
+
+-- a well-formed module has one
+abbrev pub ModuleHasValuation : Type 0
+ModuleHasValuation = (m : Module) → WellFormed m → HasValuation m
