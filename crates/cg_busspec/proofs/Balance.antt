@@ -10,7 +10,7 @@ use Rattle.cg_svspec.specs.WellFormed.{instance_driven, driven_by_connections, i
 use Rattle.cg_svspec.specs.Links.{Link}
 use Rattle.cg_busspec.specs.Crossbar.{Crossbar, node, hosts, devices, label, reach, feeders, is_joined, has_fifo}
 use Rattle.cg_busspec.proofs.Good.{IsCrossbar}
-use Rattle.cg_busspec.specs.CrossbarModule.{h_link, f_link, l_link, m_link, d_link, sel, socket_link, joined_link, lane, clocks, clock_port, host_ports, device_ports, crossbar_ports, entries_if, link_wires, host_wires, lane_wires, host_lanes, device_wires, host_select, requests, responses, fifo_instance, split_instance, join_instance, host_fifo, host_split, device_join, device_fifo, host_parts, device_parts, join_lanes, crossbar_wires, crossbar_selects, crossbar_parts, crossbar_entries, crossbar_module}
+use Rattle.cg_busspec.specs.CrossbarModule.{h_link, f_link, l_link, m_link, d_link, sel, socket_link, joined_link, lane, clocks, clock_port, host_ports, device_ports, crossbar_ports, entries_if, link_wires, host_wires, lane_wires, host_lanes, device_wires, host_select, requests, responses, fifo_instance, split_instance, join_instance, host_fifo_entry, host_split_entry, device_join_entry, device_fifo_entry, host_parts, device_parts, join_lanes, crossbar_wires, crossbar_selects, crossbar_parts, crossbar_entries, crossbar_module}
 use Rattle.cg_busspec.proofs.PartWays.{bundle_drives}
 use Rattle.cg_busspec.proofs.NumberLists.{outputs_join}
 use Rattle.cg_svspec.proofs.WellCounts.{one_if, count, count-append, plain_of, assigned_of, Balanced}
@@ -110,19 +110,19 @@ socket_answers x h n = by (has_fifo x h) where
 host_drives : (x : Crossbar) (n : List ℕ) (ins : List (List ℕ)) (h : ℕ) → drives n ins (host_parts x h)
     ≡ (at n (h_link x h).response + count_if (has_fifo x h) (at n (f_link x h).request + at n (f_link x h).response)) + total (λ d. at n (lane x h d).request) (reach x h)
 host_drives x n ins h =
-    let fifo = drives_if n ins (has_fifo x h) (host_fifo x h ∷ []) ∙ ap (count_if (has_fifo x h)) (fifo_drives n ins (codes "u_hf_" ++ label x h) (node x h).clock x.clock (h_link x h) (f_link x h)) in
+    let fifo = drives_if n ins (has_fifo x h) (host_fifo_entry x h ∷ []) ∙ ap (count_if (has_fifo x h)) (fifo_drives n ins (codes "u_hf_" ++ label x h) (node x h).clock x.clock (h_link x h) (f_link x h)) in
     let split = split_drives n ins (codes "u_s_" ++ label x h) x.clock (sel x h) (socket_link x h) (map (lane x h) (reach x h)) in
-    drives_join n ins (entries_if (has_fifo x h) (host_fifo x h ∷ [])) (host_split x h ∷ [])
+    drives_join n ins (entries_if (has_fifo x h) (host_fifo_entry x h ∷ [])) (host_split_entry x h ∷ [])
     ∙ rw (fifo, split, count_requests n (lane x h) (reach x h)) (omega (arith, socket_answers x h n))
 
 -- a device's parts
 device_drives : (x : Crossbar) (n : List ℕ) (ins : List (List ℕ)) (d : ℕ) → drives n ins (device_parts x d)
     ≡ count_if (is_joined x d) (total (λ h. at n (l_link x h d).response) (feeders x d) + at n (joined_link x d).request) + count_if (has_fifo x d) (at n (m_link x d).response + at n (d_link x d).request)
 device_drives x n ins d =
-    let join = drives_if n ins (is_joined x d) (device_join x d ∷ []) ∙ ap (count_if (is_joined x d)) (join_drives n ins (codes "u_m_" ++ label x d) x.clock (join_lanes x d) (joined_link x d)
+    let join = drives_if n ins (is_joined x d) (device_join_entry x d ∷ []) ∙ ap (count_if (is_joined x d)) (join_drives n ins (codes "u_m_" ++ label x d) x.clock (join_lanes x d) (joined_link x d)
     ∙ ap (λ z. z + at n (joined_link x d).request) (count_responses n (λ h. l_link x h d) (feeders x d))) in
-    let fifo = drives_if n ins (has_fifo x d) (device_fifo x d ∷ []) ∙ ap (count_if (has_fifo x d)) (fifo_drives n ins (codes "u_df_" ++ label x d) x.clock (node x d).clock (m_link x d) (d_link x d)) in
-    drives_join n ins (entries_if (is_joined x d) (device_join x d ∷ [])) (entries_if (has_fifo x d) (device_fifo x d ∷ [])) ∙ rw (join, fifo) refl
+    let fifo = drives_if n ins (has_fifo x d) (device_fifo_entry x d ∷ []) ∙ ap (count_if (has_fifo x d)) (fifo_drives n ins (codes "u_df_" ++ label x d) x.clock (node x d).clock (m_link x d) (d_link x d)) in
+    drives_join n ins (entries_if (is_joined x d) (device_join_entry x d ∷ [])) (entries_if (has_fifo x d) (device_fifo_entry x d ∷ [])) ∙ rw (join, fifo) refl
 
 -- two wires of a link
 link_plains : (n : List ℕ) (l : Link) → plains n (link_wires l) ≡ at n l.request + at n l.response
@@ -202,11 +202,11 @@ parts_plain x n =
       none (host_parts x) (hosts x) (λ h. host (has_fifo x h) h),
       none (device_parts x) (devices x) (λ d. device (is_joined x d) (has_fifo x d) d),
     ) where
-      host : (b : Bool) (h : ℕ) → plains n (entries_if b (host_fifo x h ∷ []) ++ (host_split x h ∷ [])) ≡ 0
+      host : (b : Bool) (h : ℕ) → plains n (entries_if b (host_fifo_entry x h ∷ []) ++ (host_split_entry x h ∷ [])) ≡ 0
       host true h = refl
       host false h = refl
 
-      device : (b c : Bool) (d : ℕ) → plains n (entries_if b (device_join x d ∷ []) ++ entries_if c (device_fifo x d ∷ [])) ≡ 0
+      device : (b c : Bool) (d : ℕ) → plains n (entries_if b (device_join_entry x d ∷ []) ++ entries_if c (device_fifo_entry x d ∷ [])) ≡ 0
       device true true d = refl
       device true false d = refl
       device false true d = refl

@@ -18,4 +18,7 @@ pub mod Described
 pub mod Accepted
 pub mod Named
 pub mod Meant
+pub mod Members
+pub mod Standing
+pub mod SelectValues
 pub mod Law

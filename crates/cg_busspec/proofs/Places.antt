@@ -144,7 +144,7 @@ test_of_in (j ∷ js) i (inr h) = rw (test_of_in js i h) (either (eqb j i)) wher
   either true = refl
   either false = refl
 
-in_filter : (p : ℕ → Bool) (is : List ℕ) (i : ℕ) → Among i (filter p is) → Among i is × (p i ≡ true)
+pub in_filter : (p : ℕ → Bool) (is : List ℕ) (i : ℕ) → Among i (filter p is) → Among i is × (p i ≡ true)
 in_filter p [] i h = absurd h
 in_filter p (j ∷ js) i h = by (in_filter p js i) (p j) refl h where
   by : (Among i (filter p js) → Among i js × (p i ≡ true)) → (b : Bool) → p j ≡ b → Among i (cond b (j ∷ filter p js) (filter p js)) → Among i (j ∷ js) × (p i ≡ true)

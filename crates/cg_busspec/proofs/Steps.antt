@@ -9,7 +9,7 @@ use Rattle.cg_svspec.specs.WellFormed.{Net}
 use Rattle.cg_svspec.specs.Links.{Link, Known, to, leaves, to_link, inside, known_of, number, selected}
 use Rattle.cg_busspec.specs.Crossbar.{Crossbar, node, hosts, devices, label, reach, feeders, is_joined, has_fifo, some_holds}
 use Rattle.cg_busspec.proofs.Good.{IsCrossbar}
-use Rattle.cg_busspec.specs.CrossbarModule.{h_link, f_link, l_link, m_link, d_link, sel, socket_link, joined_link, lane, entries_if, link_wires, host_wires, lane_wires, host_lanes, device_wires, host_select, host_fifo, host_split, device_join, device_fifo, host_parts, device_parts, join_lanes, requests, crossbar_wires, crossbar_selects, crossbar_parts, crossbar_entries, crossbar_module}
+use Rattle.cg_busspec.specs.CrossbarModule.{h_link, f_link, l_link, m_link, d_link, sel, socket_link, joined_link, lane, entries_if, link_wires, host_wires, lane_wires, host_lanes, device_wires, host_select, host_fifo_entry, host_split_entry, device_join_entry, device_fifo_entry, host_parts, device_parts, join_lanes, requests, crossbar_wires, crossbar_selects, crossbar_parts, crossbar_entries, crossbar_module}
 use Rattle.cg_busspec.proofs.PartWays.{through, Skips, skips_join, skips_if, skips_flat, through_flat, fifo_skips, fifo_goes, split_skips, split_goes, join_skips, join_goes}
 use Rattle.cg_busspec.proofs.Places.{NamesDiffer, all_nets, h_declared, d_declared, f_declared, m_declared, socket_declared, device_declared, lane_declared, links_declared, feeder_is, feeder_has, join_declared}
 use Rattle.cg_busspec.proofs.Owners.{clash, same_host, same_device, same_lane, is_output_net, h_no_output, d_is_output, f_no_output, l_no_output, m_no_output}
@@ -114,12 +114,12 @@ over_host_fifo x n h request held i fifo =
 
       others : (g : ℕ) → Among g (hosts x) → (g ≡ h → ⊥) → Skips (all_nets x) k (h_link x h) (host_parts x g)
       others g j other =
-          skips_join (all_nets x) k (h_link x h) (entries_if (has_fifo x g) (host_fifo x g ∷ [])) (host_split x g ∷ [])
-          (skips_if (all_nets x) k (h_link x h) (has_fifo x g) (host_fifo x g ∷ []) (λ e. fifo_skips (all_nets x) k (h_link x h) (codes "u_hf_" ++ label x g) (node x g).clock x.clock (h_link x g) (f_link x g) (other_named x n (codes "h_") h g i j other)))
+          skips_join (all_nets x) k (h_link x h) (entries_if (has_fifo x g) (host_fifo_entry x g ∷ [])) (host_split_entry x g ∷ [])
+          (skips_if (all_nets x) k (h_link x h) (has_fifo x g) (host_fifo_entry x g ∷ []) (λ e. fifo_skips (all_nets x) k (h_link x h) (codes "u_hf_" ++ label x g) (node x g).clock x.clock (h_link x g) (f_link x g) (other_named x n (codes "h_") h g i j other)))
           (split_skips (all_nets x) k (h_link x h) (codes "u_s_" ++ label x g) x.clock (sel x g) (socket_link x g) (map (lane x g) (reach x g)) (h_no_socket x n h g i j other))
 
       here : (rest : List Entry) → through (all_nets x) k (h_link x h) (host_parts x h ++ rest) ≡ Some (f_link x h)
-      here rest = rw fifo (fifo_goes (all_nets x) k (codes "u_hf_" ++ label x h) (node x h).clock x.clock (h_link x h) (f_link x h) (h_declared x h i) (f_declared x h i fifo) (host_split x h ∷ rest))
+      here rest = rw fifo (fifo_goes (all_nets x) k (codes "u_hf_" ++ label x h) (node x h).clock x.clock (h_link x h) (f_link x h) (h_declared x h i) (f_declared x h i fifo) (host_split_entry x h ∷ rest))
 
 -- a select names a place among the devices, or that behind them
 up_to_end : (x : Crossbar) (a j : ℕ) (ds : List ℕ) → first_with x a j ds ≤ j + length ds
@@ -155,8 +155,8 @@ over_split x c n h request held i long way =
 
       others : (g : ℕ) → Among g (hosts x) → (g ≡ h → ⊥) → Skips (all_nets x) k (socket_link x h) (host_parts x g)
       others g j other =
-          skips_join (all_nets x) k (socket_link x h) (entries_if (has_fifo x g) (host_fifo x g ∷ [])) (host_split x g ∷ [])
-          (skips_if (all_nets x) k (socket_link x h) (has_fifo x g) (host_fifo x g ∷ []) (λ e. fifo_skips (all_nets x) k (socket_link x h) (codes "u_hf_" ++ label x g) (node x g).clock x.clock (h_link x g) (f_link x g) (socket_no_h x n h g i j other)))
+          skips_join (all_nets x) k (socket_link x h) (entries_if (has_fifo x g) (host_fifo_entry x g ∷ [])) (host_split_entry x g ∷ [])
+          (skips_if (all_nets x) k (socket_link x h) (has_fifo x g) (host_fifo_entry x g ∷ []) (λ e. fifo_skips (all_nets x) k (socket_link x h) (codes "u_hf_" ++ label x g) (node x g).clock x.clock (h_link x g) (f_link x g) (socket_no_h x n h g i j other)))
           (split_skips (all_nets x) k (socket_link x h) (codes "u_s_" ++ label x g) x.clock (sel x g) (socket_link x g) (map (lane x g) (reach x g)) (socket_no_socket x n h g i j other))
 
       index : number (bits 8 (first_with x (number (address_bits request)) 0 (reach x h))) ≡ first_with x (number (address_bits request)) 0 (reach x h)
@@ -167,8 +167,8 @@ over_split x c n h request held i long way =
 
       here : (rest : List Entry) → through (all_nets x) k (socket_link x h) (host_parts x h ++ rest) ≡ slice_get lanes (first_with x (number (address_bits request)) 0 (reach x h))
       here rest =
-          ap (through (all_nets x) k (socket_link x h)) (append_assoc (entries_if (has_fifo x h) (host_fifo x h ∷ [])) (host_split x h ∷ []) rest)
-          ∙ skips_if (all_nets x) k (socket_link x h) (has_fifo x h) (host_fifo x h ∷ []) (λ e. fifo_skips (all_nets x) k (socket_link x h) (codes "u_hf_" ++ label x h) (node x h).clock x.clock (h_link x h) (f_link x h) (own_fifo x h e)) (host_split x h ∷ rest)
+          ap (through (all_nets x) k (socket_link x h)) (append_assoc (entries_if (has_fifo x h) (host_fifo_entry x h ∷ [])) (host_split_entry x h ∷ []) rest)
+          ∙ skips_if (all_nets x) k (socket_link x h) (has_fifo x h) (host_fifo_entry x h ∷ []) (λ e. fifo_skips (all_nets x) k (socket_link x h) (codes "u_hf_" ++ label x h) (node x h).clock x.clock (h_link x h) (f_link x h) (own_fifo x h e)) (host_split_entry x h ∷ rest)
           ∙ split_goes (all_nets x) k (codes "u_s_" ++ label x h) x.clock (sel x h) (socket_link x h) lanes (socket_declared x h i) (links_declared (all_nets x) (lane x h) (reach x h) (λ d j. lane_declared x c h d i j)) rest
           ∙ tells
 
@@ -176,8 +176,8 @@ over_split x c n h request held i long way =
 hosts_skip : (x : Crossbar) (k : Known) (l : Link) → ((g : ℕ) → l.request ≡ (h_link x g).request → ⊥) → ((g : ℕ) → l.request ≡ (f_link x g).request → ⊥) → (g : ℕ) → Skips (all_nets x) k l (host_parts x g)
 unfolding socket_link
 hosts_skip x k l no_h no_f g =
-    skips_join (all_nets x) k l (entries_if (has_fifo x g) (host_fifo x g ∷ [])) (host_split x g ∷ [])
-    (skips_if (all_nets x) k l (has_fifo x g) (host_fifo x g ∷ []) (λ e. fifo_skips (all_nets x) k l (codes "u_hf_" ++ label x g) (node x g).clock x.clock (h_link x g) (f_link x g) (no_h g)))
+    skips_join (all_nets x) k l (entries_if (has_fifo x g) (host_fifo_entry x g ∷ [])) (host_split_entry x g ∷ [])
+    (skips_if (all_nets x) k l (has_fifo x g) (host_fifo_entry x g ∷ []) (λ e. fifo_skips (all_nets x) k l (codes "u_hf_" ++ label x g) (node x g).clock x.clock (h_link x g) (f_link x g) (no_h g)))
     (split_skips (all_nets x) k l (codes "u_s_" ++ label x g) x.clock (sel x g) (socket_link x g) (map (lane x g) (reach x g)) (by (has_fifo x g))) where
       by : (b : Bool) → l.request ≡ (cond b (f_link x g) (h_link x g)).request → ⊥
       by true = no_f g
@@ -213,13 +213,13 @@ over_join x c n h d request held i j joined =
 
       others : (e : ℕ) → Among e (devices x) → (e ≡ d → ⊥) → Skips (all_nets x) k (l_link x h d) (device_parts x e)
       others e m other =
-          skips_join (all_nets x) k (l_link x h d) (entries_if (is_joined x e) (device_join x e ∷ [])) (entries_if (has_fifo x e) (device_fifo x e ∷ []))
-          (skips_if (all_nets x) k (l_link x h d) (is_joined x e) (device_join x e ∷ []) (λ t. join_skips (all_nets x) k (l_link x h d) (codes "u_m_" ++ label x e) x.clock (join_lanes x e) (joined_link x e) (not_theirs e other t)))
-          (skips_if (all_nets x) k (l_link x h d) (has_fifo x e) (device_fifo x e ∷ []) (λ t. fifo_skips (all_nets x) k (l_link x h d) (codes "u_df_" ++ label x e) x.clock (node x e).clock (m_link x e) (d_link x e) (clash (l_link x h d).request (m_link x e).request refl)))
+          skips_join (all_nets x) k (l_link x h d) (entries_if (is_joined x e) (device_join_entry x e ∷ [])) (entries_if (has_fifo x e) (device_fifo_entry x e ∷ []))
+          (skips_if (all_nets x) k (l_link x h d) (is_joined x e) (device_join_entry x e ∷ []) (λ t. join_skips (all_nets x) k (l_link x h d) (codes "u_m_" ++ label x e) x.clock (join_lanes x e) (joined_link x e) (not_theirs e other t)))
+          (skips_if (all_nets x) k (l_link x h d) (has_fifo x e) (device_fifo_entry x e ∷ []) (λ t. fifo_skips (all_nets x) k (l_link x h d) (codes "u_df_" ++ label x e) x.clock (node x e).clock (m_link x e) (d_link x e) (clash (l_link x h d).request (m_link x e).request refl)))
 
       here : (rest : List Entry) → through (all_nets x) k (l_link x h d) (device_parts x d ++ rest) ≡ Some (joined_link x d)
       here rest = rw joined (join_goes (all_nets x) k (l_link x h d) (codes "u_m_" ++ label x d) x.clock (join_lanes x d) (joined_link x d)
-          (link_of_number (λ g. l_link x g d) (feeders x d) h (feeder_has x h d i j)) (join_declared x d joined) (device_declared x d (c.reaches h d i j)) (entries_if (has_fifo x d) (device_fifo x d ∷ []) ++ rest))
+          (link_of_number (λ g. l_link x g d) (feeders x d) h (feeder_has x h d i j)) (join_declared x d joined) (device_declared x d (c.reaches h d i j)) (entries_if (has_fifo x d) (device_fifo_entry x d ∷ []) ++ rest))
 
 -- over the device's FIFO
 pub over_device_fifo : (x : Crossbar) → NamesDiffer x → (d : ℕ) (request : Bits) (held : List (List ℕ)) → Among d (devices x) → has_fifo x d ≡ true
@@ -234,22 +234,22 @@ over_device_fifo x n d request held i fifo =
       no_lane : (e : ℕ) → Among (m_link x d).request (requests (join_lanes x e)) → ⊥
       no_lane e a = let r = request_of_number (λ g. l_link x g e) (feeders x e) (m_link x d).request a in clash (m_link x d).request (l_link x r.0 e).request refl r.2
 
-      joins_skip : (e : ℕ) → Skips (all_nets x) k (m_link x d) (entries_if (is_joined x e) (device_join x e ∷ []))
-      joins_skip e = skips_if (all_nets x) k (m_link x d) (is_joined x e) (device_join x e ∷ []) (λ t. join_skips (all_nets x) k (m_link x d) (codes "u_m_" ++ label x e) x.clock (join_lanes x e) (joined_link x e) (no_lane e))
+      joins_skip : (e : ℕ) → Skips (all_nets x) k (m_link x d) (entries_if (is_joined x e) (device_join_entry x e ∷ []))
+      joins_skip e = skips_if (all_nets x) k (m_link x d) (is_joined x e) (device_join_entry x e ∷ []) (λ t. join_skips (all_nets x) k (m_link x d) (codes "u_m_" ++ label x e) x.clock (join_lanes x e) (joined_link x e) (no_lane e))
 
       other_device : (e : ℕ) → Among e (devices x) → (e ≡ d → ⊥) → (m_link x d).request ≡ (m_link x e).request → ⊥
       other_device e m other same = other (same_device x n e d m i (sym (append_cancel_left (codes "m_") (label x d ++ codes "_req") (label x e ++ codes "_req") same)))
 
       others : (e : ℕ) → Among e (devices x) → (e ≡ d → ⊥) → Skips (all_nets x) k (m_link x d) (device_parts x e)
       others e m other =
-          skips_join (all_nets x) k (m_link x d) (entries_if (is_joined x e) (device_join x e ∷ [])) (entries_if (has_fifo x e) (device_fifo x e ∷ []))
+          skips_join (all_nets x) k (m_link x d) (entries_if (is_joined x e) (device_join_entry x e ∷ [])) (entries_if (has_fifo x e) (device_fifo_entry x e ∷ []))
           (joins_skip e)
-          (skips_if (all_nets x) k (m_link x d) (has_fifo x e) (device_fifo x e ∷ []) (λ t. fifo_skips (all_nets x) k (m_link x d) (codes "u_df_" ++ label x e) x.clock (node x e).clock (m_link x e) (d_link x e) (other_device e m other)))
+          (skips_if (all_nets x) k (m_link x d) (has_fifo x e) (device_fifo_entry x e ∷ []) (λ t. fifo_skips (all_nets x) k (m_link x d) (codes "u_df_" ++ label x e) x.clock (node x e).clock (m_link x e) (d_link x e) (other_device e m other)))
 
       here : (rest : List Entry) → through (all_nets x) k (m_link x d) (device_parts x d ++ rest) ≡ Some (d_link x d)
       here rest =
-          ap (through (all_nets x) k (m_link x d)) (append_assoc (entries_if (is_joined x d) (device_join x d ∷ [])) (entries_if (has_fifo x d) (device_fifo x d ∷ [])) rest)
-          ∙ joins_skip d (entries_if (has_fifo x d) (device_fifo x d ∷ []) ++ rest)
+          ap (through (all_nets x) k (m_link x d)) (append_assoc (entries_if (is_joined x d) (device_join_entry x d ∷ [])) (entries_if (has_fifo x d) (device_fifo_entry x d ∷ [])) rest)
+          ∙ joins_skip d (entries_if (has_fifo x d) (device_fifo_entry x d ∷ []) ++ rest)
           ∙ rw fifo (fifo_goes (all_nets x) k (codes "u_df_" ++ label x d) x.clock (node x d).clock (m_link x d) (d_link x d) (m_declared x d i fifo) (d_declared x d i) rest)
 
 -- out of the crossbar

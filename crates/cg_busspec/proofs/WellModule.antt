@@ -12,7 +12,7 @@ use Rattle.cg_svspec.proofs.NamesLemmas.{among_front, among_back}
 use Rattle.cg_svspec.specs.Links.{Link}
 use Rattle.cg_busspec.specs.Crossbar.{Crossbar, node, hosts, devices, label, reach, feeders, is_in, is_joined, has_fifo}
 use Rattle.cg_busspec.proofs.Good.{IsCrossbar}
-use Rattle.cg_busspec.specs.CrossbarModule.{h_link, f_link, l_link, m_link, d_link, sel, clock_net, socket_link, joined_link, lane, clocks, clock_port, crossbar_ports, entries_if, link_wires, host_wires, lane_wires, host_lanes, device_wires, host_select, fifo_instance, split_instance, join_instance, host_fifo, host_split, device_join, device_fifo, host_parts, device_parts, join_lanes, crossbar_wires, crossbar_selects, crossbar_parts, crossbar_entries, crossbar_module}
+use Rattle.cg_busspec.specs.CrossbarModule.{h_link, f_link, l_link, m_link, d_link, sel, clock_net, socket_link, joined_link, lane, clocks, clock_port, crossbar_ports, entries_if, link_wires, host_wires, lane_wires, host_lanes, device_wires, host_select, fifo_instance, split_instance, join_instance, host_fifo_entry, host_split_entry, device_join_entry, device_fifo_entry, host_parts, device_parts, join_lanes, crossbar_wires, crossbar_selects, crossbar_parts, crossbar_entries, crossbar_module}
 use Rattle.cg_busspec.proofs.NumberLists.{WireIn, wire_front}
 use Rattle.cg_busspec.proofs.Places.{host_port_in, device_port_in, host_wire_in, lane_wire_in, device_wire_in, feeder_is}
 use Rattle.cg_busspec.proofs.Owners.{input_among, output_among}
@@ -105,9 +105,9 @@ all_free x n =
     (free_flat n (device_wires x) (devices x) (λ d. free_if n (has_fifo x d) (link_wires (m_link x d)) refl))))
     (free_join n (crossbar_selects x) (crossbar_parts x) (free_selects x n (hosts x))
     (free_join n (flat_map (host_parts x) (hosts x)) (flat_map (device_parts x) (devices x))
-    (free_flat n (host_parts x) (hosts x) (λ h. free_join n (entries_if (has_fifo x h) (host_fifo x h ∷ [])) (host_split x h ∷ []) (free_if n (has_fifo x h) (host_fifo x h ∷ []) refl) refl))
-    (free_flat n (device_parts x) (devices x) (λ d. free_join n (entries_if (is_joined x d) (device_join x d ∷ [])) (entries_if (has_fifo x d) (device_fifo x d ∷ []))
-    (free_if n (is_joined x d) (device_join x d ∷ []) refl) (free_if n (has_fifo x d) (device_fifo x d ∷ []) refl)))))
+    (free_flat n (host_parts x) (hosts x) (λ h. free_join n (entries_if (has_fifo x h) (host_fifo_entry x h ∷ [])) (host_split_entry x h ∷ []) (free_if n (has_fifo x h) (host_fifo_entry x h ∷ []) refl) refl))
+    (free_flat n (device_parts x) (devices x) (λ d. free_join n (entries_if (is_joined x d) (device_join_entry x d ∷ [])) (entries_if (has_fifo x d) (device_fifo_entry x d ∷ []))
+    (free_if n (is_joined x d) (device_join_entry x d ∷ []) refl) (free_if n (has_fifo x d) (device_fifo_entry x d ∷ []) refl)))))
 
 -- instances drive what is a plain wire or an output
 driven_known : (x : Crossbar) → IsCrossbar x → (n : List ℕ) → 0 < count n (plain_of (crossbar_entries x)) + count n (outputs_of (crossbar_ports x)) → Among n (above0 x).known
@@ -274,8 +274,8 @@ good_host x c ins h i =
     let long : length lanes ≡ length (reach x h) = map_long (lane x h) (reach x h) in
     let few : length lanes ≤ 64 = omega (arith, long, short x c h i) in
     let some : 0 < length lanes = omega (arith, long, some_long (reach x h) (c.some_device h i)) in
-    good_join ins (above2 x) (entries_if (has_fifo x h) (host_fifo x h ∷ [])) (host_split x h ∷ [])
-    (good_if ins (above2 x) (has_fifo x h) (host_fifo x h ∷ []) (λ t e up. fifo_sounds (codes "u_hf_" ++ label x h) (node x h).clock x.clock (h_link x h) (f_link x h)
+    good_join ins (above2 x) (entries_if (has_fifo x h) (host_fifo_entry x h ∷ [])) (host_split_entry x h ∷ [])
+    (good_if ins (above2 x) (has_fifo x h) (host_fifo_entry x h ∷ []) (λ t e up. fifo_sounds (codes "u_hf_" ++ label x h) (node x h).clock x.clock (h_link x h) (f_link x h)
     (prefix_name (codes "u_hf_") (label x h) refl refl (label_each x c h)) (has_up (up_up (up12 x) up) (clock_has x (node x h).clock (clock_name x c h) (host_clock x h i))) (has_up (up_up (up12 x) up) (own_clock_has x c))
     (link_up (up_up (up12 x) up) (h_has x c h i)) (link_up (up_up (up12 x) up) (f_has x c h i t)) sounds_none))
     (λ e up. split_sounds (codes "u_s_" ++ label x h) x.clock (sel x h) (socket_link x h) lanes
@@ -290,12 +290,12 @@ good_device : (x : Crossbar) → IsCrossbar x → (ins : List (List ℕ)) (d : �
 good_device x c ins d i =
     let long : length (join_lanes x d) ≡ length (feeders x d) = map_long (λ h. l_link x h d) (feeders x d) in
     let few : length (join_lanes x d) ≤ 64 = omega (arith, long, feeders_few x c d) in
-    good_join ins (above2 x) (entries_if (is_joined x d) (device_join x d ∷ [])) (entries_if (has_fifo x d) (device_fifo x d ∷ []))
-    (good_if ins (above2 x) (is_joined x d) (device_join x d ∷ []) (λ t e up. join_sounds (codes "u_m_" ++ label x d) x.clock (join_lanes x d) (joined_link x d)
+    good_join ins (above2 x) (entries_if (is_joined x d) (device_join_entry x d ∷ [])) (entries_if (has_fifo x d) (device_fifo_entry x d ∷ []))
+    (good_if ins (above2 x) (is_joined x d) (device_join_entry x d ∷ []) (λ t e up. join_sounds (codes "u_m_" ++ label x d) x.clock (join_lanes x d) (joined_link x d)
     (prefix_name (codes "u_m_") (label x d) refl refl (label_each x c d)) (has_up (up_up (up12 x) up) (own_clock_has x c))
     (links_have e (λ h. l_link x h d) (feeders x d) (λ h m. let both = feeder_is x h d m in link_up (up_up (up12 x) up) (l_has x c h d both.0 both.1 t)))
     (link_up (up_up (up12 x) up) (device_has x c d i)) (omega (arith, long, joined_some x d t)) few sounds_none))
-    (good_if ins (above2 x) (has_fifo x d) (device_fifo x d ∷ []) (λ t e up. fifo_sounds (codes "u_df_" ++ label x d) x.clock (node x d).clock (m_link x d) (d_link x d)
+    (good_if ins (above2 x) (has_fifo x d) (device_fifo_entry x d ∷ []) (λ t e up. fifo_sounds (codes "u_df_" ++ label x d) x.clock (node x d).clock (m_link x d) (d_link x d)
     (prefix_name (codes "u_df_") (label x d) refl refl (label_each x c d)) (has_up (up_up (up12 x) up) (own_clock_has x c)) (has_up (up_up (up12 x) up) (clock_has x (node x d).clock (clock_name x c d) (device_clock x d i)))
     (link_up (up_up (up12 x) up) (m_has x c d i t)) (link_up (up_up (up12 x) up) (d_has x c d i)) sounds_none))
 

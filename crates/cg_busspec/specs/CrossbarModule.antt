@@ -166,27 +166,27 @@ join_instance name clock ls b =
     ∷ connection (codes "req_i") (bundle (requests ls)) ∷ connection (codes "rsp_o") (bundle (responses ls))
     ∷ connection (codes "req_o") (net b.request) ∷ connection (codes "rsp_i") (net b.response) ∷ [])
 
-abbrev pub host_fifo : Crossbar → ℕ → Entry
-host_fifo x h = fifo_instance (codes "u_hf_" ++ label x h) (node x h).clock x.clock (h_link x h) (f_link x h)
+abbrev pub host_fifo_entry : Crossbar → ℕ → Entry
+host_fifo_entry x h = fifo_instance (codes "u_hf_" ++ label x h) (node x h).clock x.clock (h_link x h) (f_link x h)
 
-abbrev pub host_split : Crossbar → ℕ → Entry
-host_split x h = split_instance (codes "u_s_" ++ label x h) x.clock (sel x h) (socket_link x h) (map (lane x h) (reach x h))
+abbrev pub host_split_entry : Crossbar → ℕ → Entry
+host_split_entry x h = split_instance (codes "u_s_" ++ label x h) x.clock (sel x h) (socket_link x h) (map (lane x h) (reach x h))
 
 -- the links from a device's hosts
 abbrev pub join_lanes : Crossbar → ℕ → List Link
 join_lanes x d = map (λ h. l_link x h d) (feeders x d)
 
-abbrev pub device_join : Crossbar → ℕ → Entry
-device_join x d = join_instance (codes "u_m_" ++ label x d) x.clock (join_lanes x d) (joined_link x d)
+abbrev pub device_join_entry : Crossbar → ℕ → Entry
+device_join_entry x d = join_instance (codes "u_m_" ++ label x d) x.clock (join_lanes x d) (joined_link x d)
 
-abbrev pub device_fifo : Crossbar → ℕ → Entry
-device_fifo x d = fifo_instance (codes "u_df_" ++ label x d) x.clock (node x d).clock (m_link x d) (d_link x d)
+abbrev pub device_fifo_entry : Crossbar → ℕ → Entry
+device_fifo_entry x d = fifo_instance (codes "u_df_" ++ label x d) x.clock (node x d).clock (m_link x d) (d_link x d)
 
 abbrev pub host_parts : Crossbar → ℕ → List Entry
-host_parts x h = entries_if (has_fifo x h) (host_fifo x h ∷ []) ++ (host_split x h ∷ [])
+host_parts x h = entries_if (has_fifo x h) (host_fifo_entry x h ∷ []) ++ (host_split_entry x h ∷ [])
 
 abbrev pub device_parts : Crossbar → ℕ → List Entry
-device_parts x d = entries_if (is_joined x d) (device_join x d ∷ []) ++ entries_if (has_fifo x d) (device_fifo x d ∷ [])
+device_parts x d = entries_if (is_joined x d) (device_join_entry x d ∷ []) ++ entries_if (has_fifo x d) (device_fifo_entry x d ∷ [])
 
 -- ---- the whole
 
