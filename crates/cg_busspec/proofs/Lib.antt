@@ -22,3 +22,5 @@ pub mod Members
 pub mod Standing
 pub mod SelectValues
 pub mod Law
+pub mod Examples
+mod GoodExample
