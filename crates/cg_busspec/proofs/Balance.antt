@@ -97,32 +97,32 @@ join_drives n ins name clock ls b =
     rw (bundle_drives (responses ls)) (omega (arith, count-append n (reverse (responses ls) ++ (b.request ∷ [])) [], count-append n (reverse (responses ls)) (b.request ∷ []), count_reverse n (responses ls)))
 
 -- what a host's socket answers on
-socket_answers : (x : Crossbar) (h : ℕ) (n : List ℕ) → count_if (has_fifo x h) (at n (h_link x h).response + at n (f_link x h).request) + at n (socket_link x h).response
-    ≡ at n (h_link x h).response + count_if (has_fifo x h) (at n (f_link x h).request + at n (f_link x h).response)
+socket_answers : (x : Crossbar) (h : ℕ) (n : List ℕ) → count_if (has_fifo x.desc h) (at n (h_link x.desc h).response + at n (f_link x.desc h).request) + at n (socket_link x.desc h).response
+    ≡ at n (h_link x.desc h).response + count_if (has_fifo x.desc h) (at n (f_link x.desc h).request + at n (f_link x.desc h).response)
 unfolding socket_link
-socket_answers x h n = by (has_fifo x h) where
-  by : (b : Bool) → count_if b (at n (h_link x h).response + at n (f_link x h).request) + at n (cond b (f_link x h) (h_link x h)).response
-      ≡ at n (h_link x h).response + count_if b (at n (f_link x h).request + at n (f_link x h).response)
+socket_answers x h n = by (has_fifo x.desc h) where
+  by : (b : Bool) → count_if b (at n (h_link x.desc h).response + at n (f_link x.desc h).request) + at n (cond b (f_link x.desc h) (h_link x.desc h)).response
+      ≡ at n (h_link x.desc h).response + count_if b (at n (f_link x.desc h).request + at n (f_link x.desc h).response)
   by true = omega arith
   by false = omega arith
 
 -- a host's parts
-host_drives : (x : Crossbar) (n : List ℕ) (ins : List (List ℕ)) (h : ℕ) → drives n ins (host_parts x h)
-    ≡ (at n (h_link x h).response + count_if (has_fifo x h) (at n (f_link x h).request + at n (f_link x h).response)) + total (λ d. at n (lane x h d).request) (reach x h)
+host_drives : (x : Crossbar) (n : List ℕ) (ins : List (List ℕ)) (h : ℕ) → drives n ins (host_parts x.desc h)
+    ≡ (at n (h_link x.desc h).response + count_if (has_fifo x.desc h) (at n (f_link x.desc h).request + at n (f_link x.desc h).response)) + total (λ d. at n (lane x.desc h d).request) (reach x.desc h)
 host_drives x n ins h =
-    let fifo = drives_if n ins (has_fifo x h) (host_fifo_entry x h ∷ []) ∙ ap (count_if (has_fifo x h)) (fifo_drives n ins (codes "u_hf_" ++ label x h) (node x h).clock x.clock (h_link x h) (f_link x h)) in
-    let split = split_drives n ins (codes "u_s_" ++ label x h) x.clock (sel x h) (socket_link x h) (map (lane x h) (reach x h)) in
-    drives_join n ins (entries_if (has_fifo x h) (host_fifo_entry x h ∷ [])) (host_split_entry x h ∷ [])
-    ∙ rw (fifo, split, count_requests n (lane x h) (reach x h)) (omega (arith, socket_answers x h n))
+    let fifo = drives_if n ins (has_fifo x.desc h) (host_fifo_entry x.desc h ∷ []) ∙ ap (count_if (has_fifo x.desc h)) (fifo_drives n ins (codes "u_hf_" ++ label x.desc h) (node x.desc h).clock x.desc.clock (h_link x.desc h) (f_link x.desc h)) in
+    let split = split_drives n ins (codes "u_s_" ++ label x.desc h) x.desc.clock (sel x.desc h) (socket_link x.desc h) (map (lane x.desc h) (reach x.desc h)) in
+    drives_join n ins (entries_if (has_fifo x.desc h) (host_fifo_entry x.desc h ∷ [])) (host_split_entry x.desc h ∷ [])
+    ∙ rw (fifo, split, count_requests n (lane x.desc h) (reach x.desc h)) (omega (arith, socket_answers x h n))
 
 -- a device's parts
-device_drives : (x : Crossbar) (n : List ℕ) (ins : List (List ℕ)) (d : ℕ) → drives n ins (device_parts x d)
-    ≡ count_if (is_joined x d) (total (λ h. at n (l_link x h d).response) (feeders x d) + at n (joined_link x d).request) + count_if (has_fifo x d) (at n (m_link x d).response + at n (d_link x d).request)
+device_drives : (x : Crossbar) (n : List ℕ) (ins : List (List ℕ)) (d : ℕ) → drives n ins (device_parts x.desc d)
+    ≡ count_if (is_joined x.desc d) (total (λ h. at n (l_link x.desc h d).response) (feeders x.desc d) + at n (joined_link x.desc d).request) + count_if (has_fifo x.desc d) (at n (m_link x.desc d).response + at n (d_link x.desc d).request)
 device_drives x n ins d =
-    let join = drives_if n ins (is_joined x d) (device_join_entry x d ∷ []) ∙ ap (count_if (is_joined x d)) (join_drives n ins (codes "u_m_" ++ label x d) x.clock (join_lanes x d) (joined_link x d)
-    ∙ ap (λ z. z + at n (joined_link x d).request) (count_responses n (λ h. l_link x h d) (feeders x d))) in
-    let fifo = drives_if n ins (has_fifo x d) (device_fifo_entry x d ∷ []) ∙ ap (count_if (has_fifo x d)) (fifo_drives n ins (codes "u_df_" ++ label x d) x.clock (node x d).clock (m_link x d) (d_link x d)) in
-    drives_join n ins (entries_if (is_joined x d) (device_join_entry x d ∷ [])) (entries_if (has_fifo x d) (device_fifo_entry x d ∷ [])) ∙ rw (join, fifo) refl
+    let join = drives_if n ins (is_joined x.desc d) (device_join_entry x.desc d ∷ []) ∙ ap (count_if (is_joined x.desc d)) (join_drives n ins (codes "u_m_" ++ label x.desc d) x.desc.clock (join_lanes x.desc d) (joined_link x.desc d)
+    ∙ ap (λ z. z + at n (joined_link x.desc d).request) (count_responses n (λ h. l_link x.desc h d) (feeders x.desc d))) in
+    let fifo = drives_if n ins (has_fifo x.desc d) (device_fifo_entry x.desc d ∷ []) ∙ ap (count_if (has_fifo x.desc d)) (fifo_drives n ins (codes "u_df_" ++ label x.desc d) x.desc.clock (node x.desc d).clock (m_link x.desc d) (d_link x.desc d)) in
+    drives_join n ins (entries_if (is_joined x.desc d) (device_join_entry x.desc d ∷ [])) (entries_if (has_fifo x.desc d) (device_fifo_entry x.desc d ∷ [])) ∙ rw (join, fifo) refl
 
 -- two wires of a link
 link_plains : (n : List ℕ) (l : Link) → plains n (link_wires l) ≡ at n l.request + at n l.response
@@ -142,28 +142,28 @@ no_lanes : (is : List ℕ) → total (λ h. 0) is ≡ 0
 no_lanes [] = refl
 no_lanes (i ∷ is) = omega (arith, no_lanes is)
 
-device_request : (x : Crossbar) (d : ℕ) (n : List ℕ) → at n (joined_link x d).request + count_if (has_fifo x d) (at n (m_link x d).response + at n (d_link x d).request)
-    ≡ count_if (has_fifo x d) (at n (m_link x d).request + at n (m_link x d).response) + at n (d_link x d).request
+device_request : (x : Crossbar) (d : ℕ) (n : List ℕ) → at n (joined_link x.desc d).request + count_if (has_fifo x.desc d) (at n (m_link x.desc d).response + at n (d_link x.desc d).request)
+    ≡ count_if (has_fifo x.desc d) (at n (m_link x.desc d).request + at n (m_link x.desc d).response) + at n (d_link x.desc d).request
 unfolding joined_link
-device_request x d n = by (has_fifo x d) where
-  by : (b : Bool) → at n (cond b (m_link x d) (d_link x d)).request + count_if b (at n (m_link x d).response + at n (d_link x d).request)
-      ≡ count_if b (at n (m_link x d).request + at n (m_link x d).response) + at n (d_link x d).request
+device_request x d n = by (has_fifo x.desc d) where
+  by : (b : Bool) → at n (cond b (m_link x.desc d) (d_link x.desc d)).request + count_if b (at n (m_link x.desc d).response + at n (d_link x.desc d).request)
+      ≡ count_if b (at n (m_link x.desc d).request + at n (m_link x.desc d).response) + at n (d_link x.desc d).request
   by true = omega arith
   by false = omega arith
 
-device_balance : (x : Crossbar) (d : ℕ) (n : List ℕ) → IsSomeOf (feeders x d)
-    → total (λ h. at n (lane x h d).request) (feeders x d)
-    + (count_if (is_joined x d) (total (λ h. at n (l_link x h d).response) (feeders x d) + at n (joined_link x d).request) + count_if (has_fifo x d) (at n (m_link x d).response + at n (d_link x d).request))
-    ≡ total (λ h. count_if (is_joined x d) (at n (l_link x h d).request + at n (l_link x h d).response)) (feeders x d)
-    + (count_if (has_fifo x d) (at n (m_link x d).request + at n (m_link x d).response) + at n (d_link x d).request)
+device_balance : (x : Crossbar) (d : ℕ) (n : List ℕ) → IsSomeOf (feeders x.desc d)
+    → total (λ h. at n (lane x.desc h d).request) (feeders x.desc d)
+    + (count_if (is_joined x.desc d) (total (λ h. at n (l_link x.desc h d).response) (feeders x.desc d) + at n (joined_link x.desc d).request) + count_if (has_fifo x.desc d) (at n (m_link x.desc d).response + at n (d_link x.desc d).request))
+    ≡ total (λ h. count_if (is_joined x.desc d) (at n (l_link x.desc h d).request + at n (l_link x.desc h d).response)) (feeders x.desc d)
+    + (count_if (has_fifo x.desc d) (at n (m_link x.desc d).request + at n (m_link x.desc d).response) + at n (d_link x.desc d).request)
 unfolding lane is_joined
-device_balance x d n some = by (leb 2 (length (feeders x d))) refl where
-  by : (b : Bool) → leb 2 (length (feeders x d)) ≡ b → total (λ h. at n (cond b (l_link x h d) (joined_link x d)).request) (feeders x d)
-      + (count_if b (total (λ h. at n (l_link x h d).response) (feeders x d) + at n (joined_link x d).request) + count_if (has_fifo x d) (at n (m_link x d).response + at n (d_link x d).request))
-      ≡ total (λ h. count_if b (at n (l_link x h d).request + at n (l_link x h d).response)) (feeders x d)
-      + (count_if (has_fifo x d) (at n (m_link x d).request + at n (m_link x d).response) + at n (d_link x d).request)
-  by true e = omega (arith, total_sum (λ h. at n (l_link x h d).request) (λ h. at n (l_link x h d).response) (feeders x d), device_request x d n)
-  by false e = omega (arith, one_feeder (at n (joined_link x d).request) (feeders x d) some e, no_lanes (feeders x d), device_request x d n)
+device_balance x d n some = by (leb 2 (length (feeders x.desc d))) refl where
+  by : (b : Bool) → leb 2 (length (feeders x.desc d)) ≡ b → total (λ h. at n (cond b (l_link x.desc h d) (joined_link x.desc d)).request) (feeders x.desc d)
+      + (count_if b (total (λ h. at n (l_link x.desc h d).response) (feeders x.desc d) + at n (joined_link x.desc d).request) + count_if (has_fifo x.desc d) (at n (m_link x.desc d).response + at n (d_link x.desc d).request))
+      ≡ total (λ h. count_if b (at n (l_link x.desc h d).request + at n (l_link x.desc h d).response)) (feeders x.desc d)
+      + (count_if (has_fifo x.desc d) (at n (m_link x.desc d).request + at n (m_link x.desc d).response) + at n (d_link x.desc d).request)
+  by true e = omega (arith, total_sum (λ h. at n (l_link x.desc h d).request) (λ h. at n (l_link x.desc h d).response) (feeders x.desc d), device_request x d n)
+  by false e = omega (arith, one_feeder (at n (joined_link x.desc d).request) (feeders x.desc d) some e, no_lanes (feeders x.desc d), device_request x d n)
 
 -- ---- all
 
@@ -176,15 +176,15 @@ selects_plain : (x : Crossbar) (n : List ℕ) (hs : List ℕ) → plains n (map 
 selects_plain x n [] = refl
 selects_plain x n (h ∷ hs) = selects_plain x n hs
 
-wires_drive : (x : Crossbar) (n : List ℕ) (ins : List (List ℕ)) → drives n ins (crossbar_wires x) ≡ 0
+wires_drive : (x : Crossbar) (n : List ℕ) (ins : List (List ℕ)) → drives n ins (crossbar_wires x.desc) ≡ 0
 wires_drive x n ins =
     omega (
       arith,
-      drives_join n ins (flat_map (host_wires x) (hosts x)) (flat_map (host_lanes x) (hosts x) ++ flat_map (device_wires x) (devices x)),
-      drives_join n ins (flat_map (host_lanes x) (hosts x)) (flat_map (device_wires x) (devices x)),
-      none (host_wires x) (hosts x) (λ h. links (has_fifo x h) (f_link x h)),
-      none (host_lanes x) (hosts x) (λ h. none (lane_wires x h) (reach x h) (λ d. links (is_joined x d) (l_link x h d))),
-      none (device_wires x) (devices x) (λ d. links (has_fifo x d) (m_link x d)),
+      drives_join n ins (flat_map (host_wires x.desc) (hosts x.desc)) (flat_map (host_lanes x.desc) (hosts x.desc) ++ flat_map (device_wires x.desc) (devices x.desc)),
+      drives_join n ins (flat_map (host_lanes x.desc) (hosts x.desc)) (flat_map (device_wires x.desc) (devices x.desc)),
+      none (host_wires x.desc) (hosts x.desc) (λ h. links (has_fifo x.desc h) (f_link x.desc h)),
+      none (host_lanes x.desc) (hosts x.desc) (λ h. none (lane_wires x.desc h) (reach x.desc h) (λ d. links (is_joined x.desc d) (l_link x.desc h d))),
+      none (device_wires x.desc) (devices x.desc) (λ d. links (has_fifo x.desc d) (m_link x.desc d)),
     ) where
       links : (b : Bool) (l : Link) → drives n ins (entries_if b (link_wires l)) ≡ 0
       links true l = refl
@@ -193,20 +193,20 @@ wires_drive x n ins =
       none : (f : ℕ → List Entry) (is : List ℕ) → ((i : ℕ) → drives n ins (f i) ≡ 0) → drives n ins (flat_map f is) ≡ 0
       none f is zero_each = drives_flat n ins f is ∙ total_same (λ i. drives n ins (f i)) (λ i. 0) is (λ i m. zero_each i) ∙ no_lanes is
 
-parts_plain : (x : Crossbar) (n : List ℕ) → plains n (crossbar_parts x) ≡ 0
+parts_plain : (x : Crossbar) (n : List ℕ) → plains n (crossbar_parts x.desc) ≡ 0
 unfolding fifo_instance split_instance join_instance
 parts_plain x n =
     omega (
       arith,
-      plains_join n (flat_map (host_parts x) (hosts x)) (flat_map (device_parts x) (devices x)),
-      none (host_parts x) (hosts x) (λ h. host (has_fifo x h) h),
-      none (device_parts x) (devices x) (λ d. device (is_joined x d) (has_fifo x d) d),
+      plains_join n (flat_map (host_parts x.desc) (hosts x.desc)) (flat_map (device_parts x.desc) (devices x.desc)),
+      none (host_parts x.desc) (hosts x.desc) (λ h. host (has_fifo x.desc h) h),
+      none (device_parts x.desc) (devices x.desc) (λ d. device (is_joined x.desc d) (has_fifo x.desc d) d),
     ) where
-      host : (b : Bool) (h : ℕ) → plains n (entries_if b (host_fifo_entry x h ∷ []) ++ (host_split_entry x h ∷ [])) ≡ 0
+      host : (b : Bool) (h : ℕ) → plains n (entries_if b (host_fifo_entry x.desc h ∷ []) ++ (host_split_entry x.desc h ∷ [])) ≡ 0
       host true h = refl
       host false h = refl
 
-      device : (b c : Bool) (d : ℕ) → plains n (entries_if b (device_join_entry x d ∷ []) ++ entries_if c (device_fifo_entry x d ∷ [])) ≡ 0
+      device : (b c : Bool) (d : ℕ) → plains n (entries_if b (device_join_entry x.desc d ∷ []) ++ entries_if c (device_fifo_entry x.desc d ∷ [])) ≡ 0
       device true true d = refl
       device true false d = refl
       device false true d = refl
@@ -216,94 +216,94 @@ parts_plain x n =
       none f is zero_each = plains_flat n f is ∙ total_same (λ i. plains n (f i)) (λ i. 0) is (λ i m. zero_each i) ∙ no_lanes is
 
 -- what all parts drive
-parts_drive : (x : Crossbar) (n : List ℕ) (ins : List (List ℕ)) → drives n ins (crossbar_parts x)
-    ≡ (total (λ h. at n (h_link x h).response + count_if (has_fifo x h) (at n (f_link x h).request + at n (f_link x h).response)) (hosts x) + total (λ h. total (λ d. at n (lane x h d).request) (reach x h)) (hosts x))
-    + total (λ d. count_if (is_joined x d) (total (λ h. at n (l_link x h d).response) (feeders x d) + at n (joined_link x d).request) + count_if (has_fifo x d) (at n (m_link x d).response + at n (d_link x d).request)) (devices x)
+parts_drive : (x : Crossbar) (n : List ℕ) (ins : List (List ℕ)) → drives n ins (crossbar_parts x.desc)
+    ≡ (total (λ h. at n (h_link x.desc h).response + count_if (has_fifo x.desc h) (at n (f_link x.desc h).request + at n (f_link x.desc h).response)) (hosts x.desc) + total (λ h. total (λ d. at n (lane x.desc h d).request) (reach x.desc h)) (hosts x.desc))
+    + total (λ d. count_if (is_joined x.desc d) (total (λ h. at n (l_link x.desc h d).response) (feeders x.desc d) + at n (joined_link x.desc d).request) + count_if (has_fifo x.desc d) (at n (m_link x.desc d).response + at n (d_link x.desc d).request)) (devices x.desc)
 parts_drive x n ins =
-    drives_join n ins (flat_map (host_parts x) (hosts x)) (flat_map (device_parts x) (devices x))
+    drives_join n ins (flat_map (host_parts x.desc) (hosts x.desc)) (flat_map (device_parts x.desc) (devices x.desc))
     ∙ rw (
-      drives_flat n ins (host_parts x) (hosts x),
-      drives_flat n ins (device_parts x) (devices x),
-      total_same _ _ (hosts x) (λ h m. host_drives x n ins h),
-      total_same _ _ (devices x) (λ d m. device_drives x n ins d),
-      total_sum (λ h. at n (h_link x h).response + count_if (has_fifo x h) (at n (f_link x h).request + at n (f_link x h).response)) (λ h. total (λ d. at n (lane x h d).request) (reach x h)) (hosts x),
+      drives_flat n ins (host_parts x.desc) (hosts x.desc),
+      drives_flat n ins (device_parts x.desc) (devices x.desc),
+      total_same _ _ (hosts x.desc) (λ h m. host_drives x n ins h),
+      total_same _ _ (devices x.desc) (λ d m. device_drives x n ins d),
+      total_sum (λ h. at n (h_link x.desc h).response + count_if (has_fifo x.desc h) (at n (f_link x.desc h).request + at n (f_link x.desc h).response)) (λ h. total (λ d. at n (lane x.desc h d).request) (reach x.desc h)) (hosts x.desc),
     ) refl
 
 -- the plain wires
-wires_plain : (x : Crossbar) (n : List ℕ) → plains n (crossbar_wires x)
-    ≡ (total (λ h. count_if (has_fifo x h) (at n (f_link x h).request + at n (f_link x h).response)) (hosts x)
-    + total (λ h. total (λ d. count_if (is_joined x d) (at n (l_link x h d).request + at n (l_link x h d).response)) (reach x h)) (hosts x))
-    + total (λ d. count_if (has_fifo x d) (at n (m_link x d).request + at n (m_link x d).response)) (devices x)
+wires_plain : (x : Crossbar) (n : List ℕ) → plains n (crossbar_wires x.desc)
+    ≡ (total (λ h. count_if (has_fifo x.desc h) (at n (f_link x.desc h).request + at n (f_link x.desc h).response)) (hosts x.desc)
+    + total (λ h. total (λ d. count_if (is_joined x.desc d) (at n (l_link x.desc h d).request + at n (l_link x.desc h d).response)) (reach x.desc h)) (hosts x.desc))
+    + total (λ d. count_if (has_fifo x.desc d) (at n (m_link x.desc d).request + at n (m_link x.desc d).response)) (devices x.desc)
 wires_plain x n =
     let links : (b : Bool) (l : Link) → plains n (entries_if b (link_wires l)) ≡ count_if b (at n l.request + at n l.response) =
     λ b l. plains_if n b (link_wires l) ∙ ap (count_if b) (link_plains n l) in
-    let of_hosts = plains_flat n (host_wires x) (hosts x) ∙ total_same (λ h. plains n (host_wires x h)) (λ h. count_if (has_fifo x h) (at n (f_link x h).request + at n (f_link x h).response)) (hosts x) (λ h m. links (has_fifo x h) (f_link x h)) in
-    let of_lanes = plains_flat n (host_lanes x) (hosts x) ∙ total_same (λ h. plains n (host_lanes x h)) (λ h. total (λ d. count_if (is_joined x d) (at n (l_link x h d).request + at n (l_link x h d).response)) (reach x h)) (hosts x)
-    (λ h m. plains_flat n (lane_wires x h) (reach x h)
-    ∙ total_same (λ d. plains n (lane_wires x h d)) (λ d. count_if (is_joined x d) (at n (l_link x h d).request + at n (l_link x h d).response)) (reach x h) (λ d k. links (is_joined x d) (l_link x h d))) in
-    let of_devices = plains_flat n (device_wires x) (devices x) ∙ total_same (λ d. plains n (device_wires x d)) (λ d. count_if (has_fifo x d) (at n (m_link x d).request + at n (m_link x d).response)) (devices x) (λ d m. links (has_fifo x d) (m_link x d)) in
+    let of_hosts = plains_flat n (host_wires x.desc) (hosts x.desc) ∙ total_same (λ h. plains n (host_wires x.desc h)) (λ h. count_if (has_fifo x.desc h) (at n (f_link x.desc h).request + at n (f_link x.desc h).response)) (hosts x.desc) (λ h m. links (has_fifo x.desc h) (f_link x.desc h)) in
+    let of_lanes = plains_flat n (host_lanes x.desc) (hosts x.desc) ∙ total_same (λ h. plains n (host_lanes x.desc h)) (λ h. total (λ d. count_if (is_joined x.desc d) (at n (l_link x.desc h d).request + at n (l_link x.desc h d).response)) (reach x.desc h)) (hosts x.desc)
+    (λ h m. plains_flat n (lane_wires x.desc h) (reach x.desc h)
+    ∙ total_same (λ d. plains n (lane_wires x.desc h d)) (λ d. count_if (is_joined x.desc d) (at n (l_link x.desc h d).request + at n (l_link x.desc h d).response)) (reach x.desc h) (λ d k. links (is_joined x.desc d) (l_link x.desc h d))) in
+    let of_devices = plains_flat n (device_wires x.desc) (devices x.desc) ∙ total_same (λ d. plains n (device_wires x.desc d)) (λ d. count_if (has_fifo x.desc d) (at n (m_link x.desc d).request + at n (m_link x.desc d).response)) (devices x.desc) (λ d m. links (has_fifo x.desc d) (m_link x.desc d)) in
     omega (
       arith,
-      plains_join n (flat_map (host_wires x) (hosts x)) (flat_map (host_lanes x) (hosts x) ++ flat_map (device_wires x) (devices x)),
-      plains_join n (flat_map (host_lanes x) (hosts x)) (flat_map (device_wires x) (devices x)),
+      plains_join n (flat_map (host_wires x.desc) (hosts x.desc)) (flat_map (host_lanes x.desc) (hosts x.desc) ++ flat_map (device_wires x.desc) (devices x.desc)),
+      plains_join n (flat_map (host_lanes x.desc) (hosts x.desc)) (flat_map (device_wires x.desc) (devices x.desc)),
       of_hosts,
       of_lanes,
       of_devices,
     )
 
 -- the outputs
-all_outputs : (x : Crossbar) (n : List ℕ) → count n (outputs_of (crossbar_ports x)) ≡ total (λ h. at n (h_link x h).response) (hosts x) + total (λ d. at n (d_link x d).request) (devices x)
+all_outputs : (x : Crossbar) (n : List ℕ) → count n (outputs_of (crossbar_ports x.desc)) ≡ total (λ h. at n (h_link x.desc h).response) (hosts x.desc) + total (λ d. at n (d_link x.desc d).request) (devices x.desc)
 unfolding crossbar_ports
 all_outputs x n =
-    let of_hosts = outputs_flat n (host_ports x) (hosts x) ∙ total_same (λ h. count n (outputs_of (host_ports x h))) (λ h. at n (h_link x h).response) (hosts x) (λ h m. single (at n (h_link x h).response)) in
-    let of_devices = outputs_flat n (device_ports x) (devices x) ∙ total_same (λ d. count n (outputs_of (device_ports x d))) (λ d. at n (d_link x d).request) (devices x) (λ d m. single (at n (d_link x d).request)) in
-    rw (outputs_join (map clock_port (clocks x)) (flat_map (host_ports x) (hosts x) ++ flat_map (device_ports x) (devices x)), no_outputs (clocks x), outputs_join (flat_map (host_ports x) (hosts x)) (flat_map (device_ports x) (devices x)))
-    (omega (arith, count-append n (outputs_of (flat_map (host_ports x) (hosts x))) (outputs_of (flat_map (device_ports x) (devices x))), of_hosts, of_devices)) where
+    let of_hosts = outputs_flat n (host_ports x.desc) (hosts x.desc) ∙ total_same (λ h. count n (outputs_of (host_ports x.desc h))) (λ h. at n (h_link x.desc h).response) (hosts x.desc) (λ h m. single (at n (h_link x.desc h).response)) in
+    let of_devices = outputs_flat n (device_ports x.desc) (devices x.desc) ∙ total_same (λ d. count n (outputs_of (device_ports x.desc d))) (λ d. at n (d_link x.desc d).request) (devices x.desc) (λ d m. single (at n (d_link x.desc d).request)) in
+    rw (outputs_join (map clock_port (clocks x.desc)) (flat_map (host_ports x.desc) (hosts x.desc) ++ flat_map (device_ports x.desc) (devices x.desc)), no_outputs (clocks x.desc), outputs_join (flat_map (host_ports x.desc) (hosts x.desc)) (flat_map (device_ports x.desc) (devices x.desc)))
+    (omega (arith, count-append n (outputs_of (flat_map (host_ports x.desc) (hosts x.desc))) (outputs_of (flat_map (device_ports x.desc) (devices x.desc))), of_hosts, of_devices)) where
       single : (k : ℕ) → k + 0 ≡ k
       single k = omega arith
 
 -- the lanes of hosts, by their devices
-lanes_by_device : (x : Crossbar) → IsCrossbar x → (f : ℕ → ℕ → ℕ) → total (λ h. total (f h) (reach x h)) (hosts x) ≡ total (λ d. total (λ h. f h d) (feeders x d)) (devices x)
+lanes_by_device : (x : Crossbar) → IsCrossbar x → (f : ℕ → ℕ → ℕ) → total (λ h. total (f h) (reach x.desc h)) (hosts x.desc) ≡ total (λ d. total (λ h. f h d) (feeders x.desc d)) (devices x.desc)
 unfolding feeders
-lanes_by_device x c f = total_pairs f (reach x) (hosts x) (devices x) (devices_once x) c.once c.reaches
+lanes_by_device x c f = total_pairs f (reach x.desc) (hosts x.desc) (devices x.desc) (devices_once x) c.once c.reaches
 
 -- all devices
 devices_balance : (x : Crossbar) → IsCrossbar x → (n : List ℕ)
-    → total (λ h. total (λ d. at n (lane x h d).request) (reach x h)) (hosts x)
-    + total (λ d. count_if (is_joined x d) (total (λ h. at n (l_link x h d).response) (feeders x d) + at n (joined_link x d).request) + count_if (has_fifo x d) (at n (m_link x d).response + at n (d_link x d).request)) (devices x)
-    ≡ total (λ h. total (λ d. count_if (is_joined x d) (at n (l_link x h d).request + at n (l_link x h d).response)) (reach x h)) (hosts x)
-    + (total (λ d. count_if (has_fifo x d) (at n (m_link x d).request + at n (m_link x d).response)) (devices x) + total (λ d. at n (d_link x d).request) (devices x))
+    → total (λ h. total (λ d. at n (lane x.desc h d).request) (reach x.desc h)) (hosts x.desc)
+    + total (λ d. count_if (is_joined x.desc d) (total (λ h. at n (l_link x.desc h d).response) (feeders x.desc d) + at n (joined_link x.desc d).request) + count_if (has_fifo x.desc d) (at n (m_link x.desc d).response + at n (d_link x.desc d).request)) (devices x.desc)
+    ≡ total (λ h. total (λ d. count_if (is_joined x.desc d) (at n (l_link x.desc h d).request + at n (l_link x.desc h d).response)) (reach x.desc h)) (hosts x.desc)
+    + (total (λ d. count_if (has_fifo x.desc d) (at n (m_link x.desc d).request + at n (m_link x.desc d).response)) (devices x.desc) + total (λ d. at n (d_link x.desc d).request) (devices x.desc))
 devices_balance x c n =
-    let one : ℕ → ℕ = λ d. total (λ h. at n (lane x h d).request) (feeders x d) in
-    let two : ℕ → ℕ = λ d. count_if (is_joined x d) (total (λ h. at n (l_link x h d).response) (feeders x d) + at n (joined_link x d).request) + count_if (has_fifo x d) (at n (m_link x d).response + at n (d_link x d).request) in
-    let three : ℕ → ℕ = λ d. total (λ h. count_if (is_joined x d) (at n (l_link x h d).request + at n (l_link x h d).response)) (feeders x d) in
-    let four : ℕ → ℕ = λ d. count_if (has_fifo x d) (at n (m_link x d).request + at n (m_link x d).response) in
-    let five : ℕ → ℕ = λ d. at n (d_link x d).request in
-    let left = lanes_by_device x c (λ h d. at n (lane x h d).request) in
-    let right = lanes_by_device x c (λ h d. count_if (is_joined x d) (at n (l_link x h d).request + at n (l_link x h d).response)) in
-    let each = total_same (λ d. one d + two d) (λ d. three d + (four d + five d)) (devices x) (λ d m. device_balance x d n (c.some_host d m)) in
-    rw (left, right) (sym (total_sum one two (devices x)) ∙ each ∙ total_sum three (λ d. four d + five d) (devices x) ∙ ap (λ z. total three (devices x) + z) (total_sum four five (devices x)))
+    let one : ℕ → ℕ = λ d. total (λ h. at n (lane x.desc h d).request) (feeders x.desc d) in
+    let two : ℕ → ℕ = λ d. count_if (is_joined x.desc d) (total (λ h. at n (l_link x.desc h d).response) (feeders x.desc d) + at n (joined_link x.desc d).request) + count_if (has_fifo x.desc d) (at n (m_link x.desc d).response + at n (d_link x.desc d).request) in
+    let three : ℕ → ℕ = λ d. total (λ h. count_if (is_joined x.desc d) (at n (l_link x.desc h d).request + at n (l_link x.desc h d).response)) (feeders x.desc d) in
+    let four : ℕ → ℕ = λ d. count_if (has_fifo x.desc d) (at n (m_link x.desc d).request + at n (m_link x.desc d).response) in
+    let five : ℕ → ℕ = λ d. at n (d_link x.desc d).request in
+    let left = lanes_by_device x c (λ h d. at n (lane x.desc h d).request) in
+    let right = lanes_by_device x c (λ h d. count_if (is_joined x.desc d) (at n (l_link x.desc h d).request + at n (l_link x.desc h d).response)) in
+    let each = total_same (λ d. one d + two d) (λ d. three d + (four d + five d)) (devices x.desc) (λ d m. device_balance x d n (c.some_host d m)) in
+    rw (left, right) (sym (total_sum one two (devices x.desc)) ∙ each ∙ total_sum three (λ d. four d + five d) (devices x.desc) ∙ ap (λ z. total three (devices x.desc) + z) (total_sum four five (devices x.desc)))
 
 -- Every link and every output is driven just once.
 pub crossbar_balanced : (x : Crossbar) → IsCrossbar x → Balanced (crossbar_module x)
 unfolding crossbar_module crossbar_entries
 crossbar_balanced x c = record {
   driven = λ n.
-      let ins : List (List ℕ) = inputs_of (crossbar_ports x) in
+      let ins : List (List ℕ) = inputs_of (crossbar_ports x.desc) in
       omega (
         arith,
-        drives_join n ins (crossbar_wires x) (crossbar_selects x ++ crossbar_parts x),
-        drives_join n ins (crossbar_selects x) (crossbar_parts x),
+        drives_join n ins (crossbar_wires x.desc) (crossbar_selects x ++ crossbar_parts x.desc),
+        drives_join n ins (crossbar_selects x) (crossbar_parts x.desc),
         wires_drive x n ins,
-        selects_drive x n ins (hosts x),
+        selects_drive x n ins (hosts x.desc),
         parts_drive x n ins,
-        plains_join n (crossbar_wires x) (crossbar_selects x ++ crossbar_parts x),
-        plains_join n (crossbar_selects x) (crossbar_parts x),
+        plains_join n (crossbar_wires x.desc) (crossbar_selects x ++ crossbar_parts x.desc),
+        plains_join n (crossbar_selects x) (crossbar_parts x.desc),
         wires_plain x n,
-        selects_plain x n (hosts x),
+        selects_plain x n (hosts x.desc),
         parts_plain x n,
         all_outputs x n,
         devices_balance x c n,
-        total_sum (λ h. at n (h_link x h).response) (λ h. count_if (has_fifo x h) (at n (f_link x h).request + at n (f_link x h).response)) (hosts x),
+        total_sum (λ h. at n (h_link x.desc h).response) (λ h. count_if (has_fifo x.desc h) (at n (f_link x.desc h).request + at n (f_link x.desc h).response)) (hosts x.desc),
       );
 }

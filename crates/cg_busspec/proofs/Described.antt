@@ -11,7 +11,7 @@ use Rattle.cg_desc.specs.declared.crossbar.Range.{Range}
 use Rattle.cg_desc.specs.declared.crossbar.NodeDesc.{NodeDesc}
 use Rattle.cg_desc.specs.declared.crossbar.NodeRanges.{NodeRanges}
 use Rattle.cg_desc.specs.declared.crossbar.XbarDesc.{XbarDesc}
-use Rattle.cg_busspec.specs.Crossbar.{Node, Crossbar, node_of, first_ranges, later_ranges, nodes_of, crossbar_of, node_at, numbers_of, node, hosts, devices, reach, feeders, holds, some_holds}
+use Rattle.cg_busspec.specs.Crossbar.{Crossbar, crossbar_of, node_at, numbers_of, ranges_at, device_ranges, node, hosts, devices, reach, feeders, holds, some_holds}
 use Rattle.cg_busspec.specs.Ranges.{RangeHolds, RangesAre, HasAddress}
 use Rattle.cg_busspec.proofs.Good.{Once, IsNode, is_node_character}
 use Rattle.cg_busspec.proofs.Places.{feeder_has}
@@ -46,25 +46,21 @@ once_by_places (x ∷ xs) h = (alone, once_by_places xs (λ i j y a b. later i j
 
 -- ---- nodes
 
--- the ranges at a place
-abbrev pub ranges_at : List NodeRanges → ℕ → List Range
-ranges_at ranges zero = first_ranges ranges
-ranges_at ranges (suc i) = ranges_at (later_ranges ranges) i
-
 -- the node at a place
-node_at_is : (nodes : List NodeDesc) (ranges : List NodeRanges) (i : ℕ) (n : NodeDesc) → slice_get nodes i ≡ Some n → node_at (nodes_of nodes ranges) i ≡ node_of n (ranges_at ranges i)
-node_at_is [] ranges i n e = cc
-node_at_is (m ∷ ms) ranges zero n e = let same : m ≡ n = cc in ap (λ z. node_of z (first_ranges ranges)) same
-node_at_is (m ∷ ms) ranges (suc i) n e = node_at_is ms (later_ranges ranges) i n e
+node_at_is : (nodes : List NodeDesc) (i : ℕ) (n : NodeDesc) → slice_get nodes i ≡ Some n → node_at nodes i ≡ n
+node_at_is [] i n e = cc
+node_at_is (m ∷ ms) zero n e = cc
+node_at_is (m ∷ ms) (suc i) n e = node_at_is ms i n e
 
-pub node_is : (x : XbarDesc) (ranges : List NodeRanges) (i : ℕ) (n : NodeDesc) → NodeIs x i n → node (crossbar_of x ranges) i ≡ node_of n (ranges_at ranges i)
-node_is x ranges i n e = node_at_is x.nodes ranges i n e
+-- a node by its number
+pub node_is : (x : XbarDesc) (i : ℕ) (n : NodeDesc) → NodeIs x i n → node x i ≡ n
+node_is x i n e = node_at_is x.nodes i n e
 
 -- the number of a host, or of a device, is that of a node of this kind
-number_is : (b : Bool) (k : ℕ) (nodes : List NodeDesc) (ranges : List NodeRanges) (i : ℕ) → Among i (numbers_of b k (nodes_of nodes ranges))
+number_is : (b : Bool) (k : ℕ) (nodes : List NodeDesc) (i : ℕ) → Among i (numbers_of b k nodes)
     → (j : ℕ) × (i ≡ k + j) × (n : NodeDesc) × (slice_get nodes j ≡ Some n) × (n.host ≡ b)
-number_is b k [] ranges i a = absurd a
-number_is b k (n ∷ ns) ranges i a = by (number_is b (suc k) ns (later_ranges ranges) i) b n.host refl refl a where
+number_is b k [] i a = absurd a
+number_is b k (n ∷ ns) i a = by (number_is b (suc k) ns i) b n.host refl refl a where
   Found : Type 0
   Found = (j : ℕ) × (i ≡ k + j) × (m : NodeDesc) × (slice_get (n ∷ ns) j ≡ Some m) × (m.host ≡ b)
 
@@ -74,8 +70,8 @@ number_is b k (n ∷ ns) ranges i a = by (number_is b (suc k) ns (later_ranges r
   there : (j : ℕ) × (i ≡ suc k + j) × (m : NodeDesc) × (slice_get ns j ≡ Some m) × (m.host ≡ b) → Found
   there found = (suc found.0, omega (arith, found.1), found.2, found.3, found.4)
 
-  by : (Among i (numbers_of b (suc k) (nodes_of ns (later_ranges ranges))) → (j : ℕ) × (i ≡ suc k + j) × (m : NodeDesc) × (slice_get ns j ≡ Some m) × (m.host ≡ b)) → (c h : Bool) → b ≡ c → n.host ≡ h
-      → Among i (cond (cond c h (not h)) (k ∷ numbers_of b (suc k) (nodes_of ns (later_ranges ranges))) (numbers_of b (suc k) (nodes_of ns (later_ranges ranges)))) → Found
+  by : (Among i (numbers_of b (suc k) ns) → (j : ℕ) × (i ≡ suc k + j) × (m : NodeDesc) × (slice_get ns j ≡ Some m) × (m.host ≡ b)) → (c h : Bool) → b ≡ c → n.host ≡ h
+      → Among i (cond (cond c h (not h)) (k ∷ numbers_of b (suc k) ns) (numbers_of b (suc k) ns)) → Found
   by later true true e is (inl same) = here same (is ∙ sym e)
   by later true true e is (inr a) = there (later a)
   by later true false e is a = there (later a)
@@ -84,26 +80,26 @@ number_is b k (n ∷ ns) ranges i a = by (number_is b (suc k) ns (later_ranges r
   by later false false e is (inr a) = there (later a)
 
 -- and each such node has its number
-number_has : (b : Bool) (k : ℕ) (nodes : List NodeDesc) (ranges : List NodeRanges) (j : ℕ) (n : NodeDesc) → slice_get nodes j ≡ Some n → n.host ≡ b → Among (k + j) (numbers_of b k (nodes_of nodes ranges))
-number_has b k [] ranges j n e is = cc
-number_has b k (m ∷ ms) ranges zero n e is = subst (λ z. Among z (numbers_of b k (nodes_of (m ∷ ms) ranges))) plain (by b m.host same) where
+number_has : (b : Bool) (k : ℕ) (nodes : List NodeDesc) (j : ℕ) (n : NodeDesc) → slice_get nodes j ≡ Some n → n.host ≡ b → Among (k + j) (numbers_of b k nodes)
+number_has b k [] j n e is = cc
+number_has b k (m ∷ ms) zero n e is = subst (λ z. Among z (numbers_of b k (m ∷ ms))) plain (by b m.host same) where
   plain : k ≡ k + 0
   plain = omega arith
 
   same : m.host ≡ b
   same = let s : m ≡ n = cc in ap (λ z. z.host) s ∙ is
 
-  by : (c h : Bool) → h ≡ c → Among k (cond (cond c h (not h)) (k ∷ numbers_of b (suc k) (nodes_of ms (later_ranges ranges))) (numbers_of b (suc k) (nodes_of ms (later_ranges ranges))))
+  by : (c h : Bool) → h ≡ c → Among k (cond (cond c h (not h)) (k ∷ numbers_of b (suc k) ms) (numbers_of b (suc k) ms))
   by true true e = inl refl
   by true false e = cc
   by false true e = cc
   by false false e = inl refl
-number_has b k (m ∷ ms) ranges (suc j) n e is = subst (λ z. Among z (numbers_of b k (nodes_of (m ∷ ms) ranges))) plain (by (cond b m.host (not m.host)) (number_has b (suc k) ms (later_ranges ranges) j n e is)) where
+number_has b k (m ∷ ms) (suc j) n e is = subst (λ z. Among z (numbers_of b k (m ∷ ms))) plain (by (cond b m.host (not m.host)) (number_has b (suc k) ms j n e is)) where
   plain : suc k + j ≡ k + suc j
   plain = omega arith
 
-  by : (c : Bool) → Among (suc k + j) (numbers_of b (suc k) (nodes_of ms (later_ranges ranges)))
-      → Among (suc k + j) (cond c (k ∷ numbers_of b (suc k) (nodes_of ms (later_ranges ranges))) (numbers_of b (suc k) (nodes_of ms (later_ranges ranges))))
+  by : (c : Bool) → Among (suc k + j) (numbers_of b (suc k) ms)
+      → Among (suc k + j) (cond c (k ∷ numbers_of b (suc k) ms) (numbers_of b (suc k) ms))
   by true a = inr a
   by false a = a
 
@@ -112,36 +108,36 @@ from_zero : (i : ℕ) → 0 + i ≡ i
 from_zero i = omega arith
 
 -- the numbers of the hosts are those of the described ones
-pub host_is : (x : XbarDesc) (ranges : List NodeRanges) (h : ℕ) → Among h (hosts (crossbar_of x ranges)) → IsHost x h
+pub host_is : (x : XbarDesc) (h : ℕ) → Among h (hosts x) → IsHost x h
 unfolding hosts
-host_is x ranges h a = let found = number_is true 0 x.nodes ranges h a in let plain : found.0 ≡ h = omega (arith, found.1) in (found.2, subst (λ z. slice_get x.nodes z ≡ Some found.2) plain found.3, found.4)
+host_is x h a = let found = number_is true 0 x.nodes h a in let plain : found.0 ≡ h = omega (arith, found.1) in (found.2, subst (λ z. slice_get x.nodes z ≡ Some found.2) plain found.3, found.4)
 
-pub host_has : (x : XbarDesc) (ranges : List NodeRanges) (h : ℕ) (n : NodeDesc) → NodeIs x h n → n.host ≡ true → Among h (hosts (crossbar_of x ranges))
+pub host_has : (x : XbarDesc) (h : ℕ) (n : NodeDesc) → NodeIs x h n → n.host ≡ true → Among h (hosts x)
 unfolding hosts
-host_has x ranges h n e is = subst (λ z. Among z (numbers_of true 0 (nodes_of x.nodes ranges))) (from_zero h) (number_has true 0 x.nodes ranges h n e is)
+host_has x h n e is = subst (λ z. Among z (numbers_of true 0 x.nodes)) (from_zero h) (number_has true 0 x.nodes h n e is)
 
 -- so are those of the devices
-pub device_is : (x : XbarDesc) (ranges : List NodeRanges) (d : ℕ) → Among d (devices (crossbar_of x ranges)) → IsDevice x d
+pub device_is : (x : XbarDesc) (d : ℕ) → Among d (devices x) → IsDevice x d
 unfolding devices
-device_is x ranges d a = let found = number_is false 0 x.nodes ranges d a in let plain : found.0 ≡ d = omega (arith, found.1) in (found.2, subst (λ z. slice_get x.nodes z ≡ Some found.2) plain found.3, found.4)
+device_is x d a = let found = number_is false 0 x.nodes d a in let plain : found.0 ≡ d = omega (arith, found.1) in (found.2, subst (λ z. slice_get x.nodes z ≡ Some found.2) plain found.3, found.4)
 
-pub device_has : (x : XbarDesc) (ranges : List NodeRanges) (d : ℕ) → IsDevice x d → Among d (devices (crossbar_of x ranges))
+pub device_has : (x : XbarDesc) (d : ℕ) → IsDevice x d → Among d (devices x)
 unfolding devices
-device_has x ranges d is = subst (λ z. Among z (numbers_of false 0 (nodes_of x.nodes ranges))) (from_zero d) (number_has false 0 x.nodes ranges d is.0 is.1 is.2)
+device_has x d is = subst (λ z. Among z (numbers_of false 0 x.nodes)) (from_zero d) (number_has false 0 x.nodes d is.0 is.1 is.2)
 
 -- the devices of a host are those that it connects to
-pub reach_is : (x : XbarDesc) (ranges : List NodeRanges) (h : ℕ) (n : NodeDesc) → NodeIs x h n → reach (crossbar_of x ranges) h ≡ n.to
+pub reach_is : (x : XbarDesc) (h : ℕ) (n : NodeDesc) → NodeIs x h n → reach x h ≡ n.to
 unfolding reach
-reach_is x ranges h n e = ap (λ z. z.to) (node_is x ranges h n e)
+reach_is x h n e = ap (λ z. z.to) (node_is x h n e)
 
-pub connects_is : (x : XbarDesc) (ranges : List NodeRanges) (h d : ℕ) → Among h (hosts (crossbar_of x ranges)) → Among d (reach (crossbar_of x ranges) h) → Connects x h d
-connects_is x ranges h d i j = let is = host_is x ranges h i in (is.0, is.1, is.2, subst (Among d) (reach_is x ranges h is.0 is.1) j)
+pub connects_is : (x : XbarDesc) (h d : ℕ) → Among h (hosts x) → Among d (reach x h) → Connects x h d
+connects_is x h d i j = let is = host_is x h i in (is.0, is.1, is.2, subst (Among d) (reach_is x h is.0 is.1) j)
 
-pub connects_host : (x : XbarDesc) (ranges : List NodeRanges) (h d : ℕ) → Connects x h d → Among h (hosts (crossbar_of x ranges))
-connects_host x ranges h d c = host_has x ranges h c.0 c.1 c.2
+pub connects_host : (x : XbarDesc) (h d : ℕ) → Connects x h d → Among h (hosts x)
+connects_host x h d c = host_has x h c.0 c.1 c.2
 
-pub connects_has : (x : XbarDesc) (ranges : List NodeRanges) (h d : ℕ) → Connects x h d → Among d (reach (crossbar_of x ranges) h)
-connects_has x ranges h d c = subst (Among d) (sym (reach_is x ranges h c.0 c.1)) c.3
+pub connects_has : (x : XbarDesc) (h d : ℕ) → Connects x h d → Among d (reach x h)
+connects_has x h d c = subst (Among d) (sym (reach_is x h c.0 c.1)) c.3
 
 -- ---- addresses
 
@@ -152,8 +148,8 @@ ranges_are (r ∷ ranges) zero rs e = let same : r ≡ rs = cc in ap (λ z. z.ra
 ranges_are (r ∷ ranges) (suc i) rs e = ranges_are ranges i rs e
 
 -- of a node
-pub node_ranges : (x : XbarDesc) (ranges : List NodeRanges) (d : ℕ) (rs : NodeRanges) → IsDevice x d → RangesAre ranges d rs → (node (crossbar_of x ranges) d).ranges ≡ rs.ranges
-node_ranges x ranges d rs is e = ap (λ z. z.ranges) (node_is x ranges d is.0 is.1) ∙ ranges_are ranges d rs e
+pub node_ranges : (x : XbarDesc) (ranges : List NodeRanges) (d : ℕ) (rs : NodeRanges) → RangesAre ranges d rs → (device_ranges (crossbar_of x ranges) d) ≡ rs.ranges
+node_ranges x ranges d rs e = ranges_are ranges d rs e
 
 -- where one list has a place, so has another of its length
 place_in : {A B : Type 0} (xs : List A) (ys : List B) (i : ℕ) (x : A) → length ys ≡ length xs → slice_get xs i ≡ Some x → (y : B) × (slice_get ys i ≡ Some y)
@@ -190,18 +186,18 @@ tells_some a (s ∷ ss) r (inr m) h = by (holds a s) (tells_some a ss r m h) whe
   by false t = t
 
 -- a device has the address
-pub has_address : (x : XbarDesc) (ranges : List NodeRanges) (d a : ℕ) → length ranges ≡ length x.nodes → IsDevice x d → some_holds a (node (crossbar_of x ranges) d).ranges ≡ true → HasAddress ranges d a
+pub has_address : (x : XbarDesc) (ranges : List NodeRanges) (d a : ℕ) → length ranges ≡ length x.nodes → IsDevice x d → some_holds a (device_ranges (crossbar_of x ranges) d) ≡ true → HasAddress ranges d a
 has_address x ranges d a long is e =
     let rs = has_ranges x ranges d long is in
-    let found = some_tells a rs.0.ranges (subst (λ z. some_holds a z ≡ true) (node_ranges x ranges d rs.0 is rs.1) e) in
+    let found = some_tells a rs.0.ranges (subst (λ z. some_holds a z ≡ true) (node_ranges x ranges d rs.0 rs.1) e) in
     (rs.0, rs.1, found.0, found.1, found.2)
 
-pub address_has : (x : XbarDesc) (ranges : List NodeRanges) (d a : ℕ) → IsDevice x d → HasAddress ranges d a → some_holds a (node (crossbar_of x ranges) d).ranges ≡ true
-address_has x ranges d a is h = subst (λ z. some_holds a z ≡ true) (sym (node_ranges x ranges d h.0 is h.1)) (tells_some a h.0.ranges h.2 h.3 h.4)
+pub address_has : (x : XbarDesc) (ranges : List NodeRanges) (d a : ℕ) → IsDevice x d → HasAddress ranges d a → some_holds a (device_ranges (crossbar_of x ranges) d) ≡ true
+address_has x ranges d a is h = subst (λ z. some_holds a z ≡ true) (sym (node_ranges x ranges d h.0 h.1)) (tells_some a h.0.ranges h.2 h.3 h.4)
 
 -- it has not
-pub lacks_address : (x : XbarDesc) (ranges : List NodeRanges) (d a : ℕ) → length ranges ≡ length x.nodes → IsDevice x d → (HasAddress ranges d a → ⊥) → some_holds a (node (crossbar_of x ranges) d).ranges ≡ false
-lacks_address x ranges d a long is no_address = by (some_holds a (node (crossbar_of x ranges) d).ranges) refl where
-  by : (b : Bool) → some_holds a (node (crossbar_of x ranges) d).ranges ≡ b → b ≡ false
+pub lacks_address : (x : XbarDesc) (ranges : List NodeRanges) (d a : ℕ) → length ranges ≡ length x.nodes → IsDevice x d → (HasAddress ranges d a → ⊥) → some_holds a (device_ranges (crossbar_of x ranges) d) ≡ false
+lacks_address x ranges d a long is no_address = by (some_holds a (device_ranges (crossbar_of x ranges) d)) refl where
+  by : (b : Bool) → some_holds a (device_ranges (crossbar_of x ranges) d) ≡ b → b ≡ false
   by true e = absurd (no_address (has_address x ranges d a long is e))
   by false e = refl

@@ -11,7 +11,7 @@ use Rattle.cg_svspec.specs.Value.{eval}
 use Rattle.cg_svspec.proofs.NamesLemmas.{name_is_itself, same_name}
 use Rattle.cg_svspec.specs.Links.{Link, Known, is_known, are_known, learn, learn_all, known_of, number}
 use Rattle.cg_desc.specs.declared.crossbar.Range.{Range}
-use Rattle.cg_busspec.specs.Crossbar.{Crossbar, node, hosts, devices, label, reach, is_joined, has_fifo}
+use Rattle.cg_busspec.specs.Crossbar.{device_ranges, Crossbar, node, hosts, devices, label, reach, is_joined, has_fifo}
 use Rattle.cg_busspec.proofs.Good.{IsCrossbar}
 use Rattle.cg_busspec.specs.CrossbarModule.{power_of, range_term, range_terms, select, host_select, sel, f_link, h_link, l_link, m_link, socket_link, entries_if, link_wires, host_wires, lane_wires, host_lanes, device_wires, host_parts, device_parts, fifo_instance, split_instance, join_instance, crossbar_wires, crossbar_selects, crossbar_parts, crossbar_entries, crossbar_module}
 use Rattle.cg_busspec.proofs.PartWays.{fails}
@@ -46,19 +46,19 @@ silent_if false xs a k = refl
 silent_links : (l : Link) → Silent (link_wires l)
 silent_links l k = refl
 
-silent_wires : (x : Crossbar) → Silent (crossbar_wires x)
+silent_wires : (x : Crossbar) → Silent (crossbar_wires x.desc)
 silent_wires x =
-    silent_join (flat_map (host_wires x) (hosts x)) _ (silent_flat (host_wires x) (hosts x) (λ h. silent_if (has_fifo x h) _ (silent_links (f_link x h))))
-    (silent_join (flat_map (host_lanes x) (hosts x)) (flat_map (device_wires x) (devices x))
-    (silent_flat (host_lanes x) (hosts x) (λ h. silent_flat (lane_wires x h) (reach x h) (λ d. silent_if (is_joined x d) _ (silent_links (l_link x h d)))))
-    (silent_flat (device_wires x) (devices x) (λ d. silent_if (has_fifo x d) _ (silent_links (m_link x d)))))
+    silent_join (flat_map (host_wires x.desc) (hosts x.desc)) _ (silent_flat (host_wires x.desc) (hosts x.desc) (λ h. silent_if (has_fifo x.desc h) _ (silent_links (f_link x.desc h))))
+    (silent_join (flat_map (host_lanes x.desc) (hosts x.desc)) (flat_map (device_wires x.desc) (devices x.desc))
+    (silent_flat (host_lanes x.desc) (hosts x.desc) (λ h. silent_flat (lane_wires x.desc h) (reach x.desc h) (λ d. silent_if (is_joined x.desc d) _ (silent_links (l_link x.desc h d)))))
+    (silent_flat (device_wires x.desc) (devices x.desc) (λ d. silent_if (has_fifo x.desc d) _ (silent_links (m_link x.desc d)))))
 
-silent_parts : (x : Crossbar) → Silent (crossbar_parts x)
+silent_parts : (x : Crossbar) → Silent (crossbar_parts x.desc)
 unfolding fifo_instance split_instance join_instance
 silent_parts x =
-    silent_join (flat_map (host_parts x) (hosts x)) (flat_map (device_parts x) (devices x))
-    (silent_flat (host_parts x) (hosts x) (λ h. silent_join (entries_if (has_fifo x h) _) _ (silent_if (has_fifo x h) _ (λ k. refl)) (λ k. refl)))
-    (silent_flat (device_parts x) (devices x) (λ d. silent_join (entries_if (is_joined x d) _) _ (silent_if (is_joined x d) _ (λ k. refl)) (silent_if (has_fifo x d) _ (λ k. refl))))
+    silent_join (flat_map (host_parts x.desc) (hosts x.desc)) (flat_map (device_parts x.desc) (devices x.desc))
+    (silent_flat (host_parts x.desc) (hosts x.desc) (λ h. silent_join (entries_if (has_fifo x.desc h) _) _ (silent_if (has_fifo x.desc h) _ (λ k. refl)) (λ k. refl)))
+    (silent_flat (device_parts x.desc) (devices x.desc) (λ d. silent_join (entries_if (is_joined x.desc d) _) _ (silent_if (is_joined x.desc d) _ (λ k. refl)) (silent_if (has_fifo x.desc d) _ (λ k. refl))))
 
 -- ---- what is known of one net
 
@@ -92,63 +92,63 @@ terms_known names q (r ∷ rs) h = rw (term_known names q r h, terms_known names
 
 select_known : (names : List (List ℕ)) (x : Crossbar) (q : List ℕ) (j : ℕ) (ds : List ℕ) → is_among names q ≡ true → is_known names (select x q j ds) ≡ true
 select_known names x q j [] h = refl
-select_known names x q j (d ∷ ds) h = rw (terms_known names q (node x d).ranges h, select_known names x q (suc j) ds h) refl
+select_known names x q j (d ∷ ds) h = rw (terms_known names q (device_ranges x d) h, select_known names x q (suc j) ds h) refl
 
 -- ---- the selects of all hosts
 
 -- names of selects
-other_select : (x : Crossbar) → NamesDiffer x → (h g : ℕ) → Among h (hosts x) → Among g (hosts x) → (g ≡ h → ⊥) → bytes_eq (sel x g) (sel x h) ≡ false
-other_select x d h g i j other = fails _ (λ e. other (same_host x d g h j i (ap (λ z. z ++ codes "_req") (append_cancel_left (codes "sel_") (label x g) (label x h) (same_name (sel x g) (sel x h) e)))))
+other_select : (x : Crossbar) → NamesDiffer x → (h g : ℕ) → Among h (hosts x.desc) → Among g (hosts x.desc) → (g ≡ h → ⊥) → bytes_eq (sel x.desc g) (sel x.desc h) ≡ false
+other_select x d h g i j other = fails _ (λ e. other (same_host x d g h j i (ap (λ z. z ++ codes "_req") (append_cancel_left (codes "sel_") (label x.desc g) (label x.desc h) (same_name (sel x.desc g) (sel x.desc h) e)))))
 
 -- no request's name is a select's
-no_select : (x : Crossbar) (h g : ℕ) → bytes_eq (sel x g) (socket_link x h).request ≡ false
+no_select : (x : Crossbar) (h g : ℕ) → bytes_eq (sel x.desc g) (socket_link x.desc h).request ≡ false
 unfolding socket_link
-no_select x h g = by (has_fifo x h) where
-  by : (b : Bool) → bytes_eq (sel x g) (cond b (f_link x h) (h_link x h)).request ≡ false
+no_select x h g = by (has_fifo x.desc h) where
+  by : (b : Bool) → bytes_eq (sel x.desc g) (cond b (f_link x.desc h) (h_link x.desc h)).request ≡ false
   by true = refl
   by false = refl
 
 -- what the select of a host tells
 abbrev pub select_bits : Crossbar → ℕ → Bits → Bits
-select_bits x h request = bits 8 (first_with x (number (address_bits request)) 0 (reach x h))
+select_bits x h request = bits 8 (first_with x (number (address_bits request)) 0 (reach x.desc h))
 
-selects_tell : (x : Crossbar) → IsCrossbar x → NamesDiffer x → (h : ℕ) (request : Bits) → Among h (hosts x) → length request ≡ 70 → (gs : List ℕ) (k : Known)
-    → ((g : ℕ) → Among g gs → Among g (hosts x)) → Told k (socket_link x h).request request → (Told k (sel x h) (select_bits x h request) ⊎ Among h gs)
-    → Told (learn_all k (map (host_select x) gs)) (sel x h) (select_bits x h request)
+selects_tell : (x : Crossbar) → IsCrossbar x → NamesDiffer x → (h : ℕ) (request : Bits) → Among h (hosts x.desc) → length request ≡ 70 → (gs : List ℕ) (k : Known)
+    → ((g : ℕ) → Among g gs → Among g (hosts x.desc)) → Told k (socket_link x.desc h).request request → (Told k (sel x.desc h) (select_bits x h request) ⊎ Among h gs)
+    → Told (learn_all k (map (host_select x) gs)) (sel x.desc h) (select_bits x h request)
 selects_tell x c d h request i long [] k all q (inl t) = t
 selects_tell x c d h request i long [] k all q (inr n) = absurd n
 selects_tell x c d h request i long (g ∷ gs) k all q now =
-    selects_tell x c d h request i long gs (learn k (sel x g) (select x (socket_link x g).request 0 (reach x g))) (λ e m. all e (inr m))
-    (told_later k (socket_link x h).request (sel x g) request (select x (socket_link x g).request 0 (reach x g)) (no_select x h g) q)
+    selects_tell x c d h request i long gs (learn k (sel x.desc g) (select x (socket_link x.desc g).request 0 (reach x.desc g))) (λ e m. all e (inr m))
+    (told_later k (socket_link x.desc h).request (sel x.desc g) request (select x (socket_link x.desc g).request 0 (reach x.desc g)) (no_select x h g) q)
     (by (eqb g h) refl now) where
       expression : Expression
-      expression = select x (socket_link x g).request 0 (reach x g)
+      expression = select x (socket_link x.desc g).request 0 (reach x.desc g)
 
-      here : g ≡ h → Told (learn k (sel x g) expression) (sel x h) (select_bits x h request)
-      here e = subst (λ z. Told (learn k (sel x z) (select x (socket_link x z).request 0 (reach x z))) (sel x h) (select_bits x h request)) (sym e)
-          (told_now k (sel x h) (select_bits x h request) (select x (socket_link x h).request 0 (reach x h)) (select_known k.names x (socket_link x h).request 0 (reach x h) q.known)
-          (select_is k.values x (socket_link x h).request request q.value long 0 (reach x h) (λ e m. c.ranges e (c.reaches h e i m))))
+      here : g ≡ h → Told (learn k (sel x.desc g) expression) (sel x.desc h) (select_bits x h request)
+      here e = subst (λ z. Told (learn k (sel x.desc z) (select x (socket_link x.desc z).request 0 (reach x.desc z))) (sel x.desc h) (select_bits x h request)) (sym e)
+          (told_now k (sel x.desc h) (select_bits x h request) (select x (socket_link x.desc h).request 0 (reach x.desc h)) (select_known k.names x (socket_link x.desc h).request 0 (reach x.desc h) q.known)
+          (select_is k.values x (socket_link x.desc h).request request q.value long 0 (reach x.desc h) (λ e m. c.ranges e (c.reaches h e i m))))
 
       itself : eqb g h ≡ false → g ≡ h → ⊥
       itself e s = clash_number h (subst (λ z. eqb z h ≡ false) s e) where
         clash_number : (n : ℕ) → eqb n n ≡ false → ⊥
         clash_number n u = grind arith
 
-      by : (b : Bool) → eqb g h ≡ b → (Told k (sel x h) (select_bits x h request) ⊎ Among h (g ∷ gs))
-          → (Told (learn k (sel x g) expression) (sel x h) (select_bits x h request) ⊎ Among h gs)
+      by : (b : Bool) → eqb g h ≡ b → (Told k (sel x.desc h) (select_bits x h request) ⊎ Among h (g ∷ gs))
+          → (Told (learn k (sel x.desc g) expression) (sel x.desc h) (select_bits x h request) ⊎ Among h gs)
       by true e now = inl (here (eqb-true g h e))
-      by false e (inl t) = inl (told_later k (sel x h) (sel x g) (select_bits x h request) expression (other_select x d h g i (all g (inl refl)) (itself e)) t)
+      by false e (inl t) = inl (told_later k (sel x.desc h) (sel x.desc g) (select_bits x h request) expression (other_select x d h g i (all g (inl refl)) (itself e)) t)
       by false e (inr (inl s)) = inl (here (sym s))
       by false e (inr (inr m)) = inr m
 
 -- On a way that was at the socket's link, the select of the host has that value.
-pub select_told : (x : Crossbar) → IsCrossbar x → NamesDiffer x → (h : ℕ) (request : Bits) (held : List (List ℕ)) → Among h (hosts x) → length request ≡ 70
-    → is_among held (socket_link x h).request ≡ true → Told (known_of (crossbar_module x) request held) (sel x h) (select_bits x h request)
+pub select_told : (x : Crossbar) → IsCrossbar x → NamesDiffer x → (h : ℕ) (request : Bits) (held : List (List ℕ)) → Among h (hosts x.desc) → length request ≡ 70
+    → is_among held (socket_link x.desc h).request ≡ true → Told (known_of (crossbar_module x) request held) (sel x.desc h) (select_bits x h request)
 unfolding known_of crossbar_module crossbar_entries
 select_told x c d h request held i long way =
     let k : Known = record { names = held; values = λ n. request } in
-    let told = selects_tell x c d h request i long (hosts x) k (λ g m. m) (record { known = way; value = refl }) (inr i) in
-    let whole : learn_all k (crossbar_wires x ++ (crossbar_selects x ++ crossbar_parts x)) ≡ learn_all k (crossbar_selects x) =
-    learn_join k (crossbar_wires x) (crossbar_selects x ++ crossbar_parts x) ∙ ap (λ z. learn_all z (crossbar_selects x ++ crossbar_parts x)) (silent_wires x k)
-    ∙ learn_join k (crossbar_selects x) (crossbar_parts x) ∙ silent_parts x (learn_all k (crossbar_selects x)) in
-    subst (λ z. Told z (sel x h) (select_bits x h request)) (sym whole) told
+    let told = selects_tell x c d h request i long (hosts x.desc) k (λ g m. m) (record { known = way; value = refl }) (inr i) in
+    let whole : learn_all k (crossbar_wires x.desc ++ (crossbar_selects x ++ crossbar_parts x.desc)) ≡ learn_all k (crossbar_selects x) =
+    learn_join k (crossbar_wires x.desc) (crossbar_selects x ++ crossbar_parts x.desc) ∙ ap (λ z. learn_all z (crossbar_selects x ++ crossbar_parts x.desc)) (silent_wires x k)
+    ∙ learn_join k (crossbar_selects x) (crossbar_parts x.desc) ∙ silent_parts x (learn_all k (crossbar_selects x)) in
+    subst (λ z. Told z (sel x.desc h) (select_bits x h request)) (sym whole) told

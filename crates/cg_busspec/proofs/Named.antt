@@ -11,22 +11,22 @@ use Rattle.cg_busspec.proofs.Described.{node_is}
 use Rattle.cg_busspec.proofs.PartWays.{label_is}
 
 -- a node's name, as it is described
-pub name_is : (x : XbarDesc) (ranges : List NodeRanges) (i : ℕ) (n : NodeDesc) → NodeIs x i n → (node (crossbar_of x ranges) i).name ≡ n.name
-name_is x ranges i n e = ap (λ z. z.name) (node_is x ranges i n e)
+pub name_is : (x : XbarDesc) (i : ℕ) (n : NodeDesc) → NodeIs x i n → (node x i).name ≡ n.name
+name_is x i n e = ap (λ z. z.name) (node_is x i n e)
 
 -- and its clock
-pub clock_is : (x : XbarDesc) (ranges : List NodeRanges) (i : ℕ) (n : NodeDesc) → NodeIs x i n → (node (crossbar_of x ranges) i).clock ≡ n.clock
-clock_is x ranges i n e = ap (λ z. z.clock) (node_is x ranges i n e)
+pub clock_is : (x : XbarDesc) (i : ℕ) (n : NodeDesc) → NodeIs x i n → (node x i).clock ≡ n.clock
+clock_is x i n e = ap (λ z. z.clock) (node_is x i n e)
 
 -- the name as it stands in nets
-pub label_of : (x : XbarDesc) (ranges : List NodeRanges) (i : ℕ) (n : NodeDesc) → NodeIs x i n → label (crossbar_of x ranges) i ≡ spelled n.name
+pub label_of : (x : XbarDesc) (i : ℕ) (n : NodeDesc) → NodeIs x i n → label x i ≡ spelled n.name
 unfolding label
-label_of x ranges i n e = label_is (node (crossbar_of x ranges) i).name ∙ ap spelled (name_is x ranges i n e)
+label_of x i n e = label_is (node x i).name ∙ ap spelled (name_is x i n e)
 
 -- a host's link
-pub h_link_is : (x : XbarDesc) (ranges : List NodeRanges) (h : ℕ) (n : NodeDesc) → NodeIs x h n → h_link (crossbar_of x ranges) h ≡ host_link n.name
-h_link_is x ranges h n e = ap (λ z. link (codes "h_" ++ (z ++ codes "_req")) (codes "h_" ++ (z ++ codes "_rsp"))) (label_of x ranges h n e)
+pub h_link_is : (x : XbarDesc) (h : ℕ) (n : NodeDesc) → NodeIs x h n → h_link x h ≡ host_link n.name
+h_link_is x h n e = ap (λ z. link (codes "h_" ++ (z ++ codes "_req")) (codes "h_" ++ (z ++ codes "_rsp"))) (label_of x h n e)
 
 -- and a device's
-pub d_link_is : (x : XbarDesc) (ranges : List NodeRanges) (d : ℕ) (n : NodeDesc) → NodeIs x d n → d_link (crossbar_of x ranges) d ≡ device_link n.name
-d_link_is x ranges d n e = ap (λ z. link (codes "d_" ++ (z ++ codes "_req")) (codes "d_" ++ (z ++ codes "_rsp"))) (label_of x ranges d n e)
+pub d_link_is : (x : XbarDesc) (d : ℕ) (n : NodeDesc) → NodeIs x d n → d_link x d ≡ device_link n.name
+d_link_is x d n e = ap (λ z. link (codes "d_" ++ (z ++ codes "_req")) (codes "d_" ++ (z ++ codes "_rsp"))) (label_of x d n e)

@@ -25,61 +25,61 @@ clash m n h e = itself (first_byte n) (subst (λ z. eqb (first_byte z) (first_by
 
 -- ---- the parts of the names
 
-pub ports_differ : (x : Crossbar) → NamesDiffer x → Differ (port_names (crossbar_ports x))
-ports_differ x d = differ_front (port_names (crossbar_ports x)) (entry_names (crossbar_entries x)) d
+pub ports_differ : (x : Crossbar) → NamesDiffer x → Differ (port_names (crossbar_ports x.desc))
+ports_differ x d = differ_front (port_names (crossbar_ports x.desc)) (entry_names (crossbar_entries x)) d
 
 node_ports_differ : (x : Crossbar) → NamesDiffer x
-    → Differ (flat_map (λ h. port_names (host_ports x h)) (hosts x) ++ flat_map (λ d. port_names (device_ports x d)) (devices x))
+    → Differ (flat_map (λ h. port_names (host_ports x.desc h)) (hosts x.desc) ++ flat_map (λ d. port_names (device_ports x.desc d)) (devices x.desc))
 unfolding crossbar_ports
 node_ports_differ x d =
-    let both : port_names (flat_map (host_ports x) (hosts x) ++ flat_map (device_ports x) (devices x))
-    ≡ flat_map (λ h. port_names (host_ports x h)) (hosts x) ++ flat_map (λ d. port_names (device_ports x d)) (devices x) =
-    port_names_join (flat_map (host_ports x) (hosts x)) (flat_map (device_ports x) (devices x))
-    ∙ ap (λ z. z ++ port_names (flat_map (device_ports x) (devices x))) (port_names_flat (host_ports x) (hosts x))
-    ∙ ap (λ z. flat_map (λ h. port_names (host_ports x h)) (hosts x) ++ z) (port_names_flat (device_ports x) (devices x)) in
-    subst Differ both (differ_back (port_names (map clock_port (clocks x))) _
-    (subst Differ (port_names_join (map clock_port (clocks x)) (flat_map (host_ports x) (hosts x) ++ flat_map (device_ports x) (devices x))) (ports_differ x d)))
+    let both : port_names (flat_map (host_ports x.desc) (hosts x.desc) ++ flat_map (device_ports x.desc) (devices x.desc))
+    ≡ flat_map (λ h. port_names (host_ports x.desc h)) (hosts x.desc) ++ flat_map (λ d. port_names (device_ports x.desc d)) (devices x.desc) =
+    port_names_join (flat_map (host_ports x.desc) (hosts x.desc)) (flat_map (device_ports x.desc) (devices x.desc))
+    ∙ ap (λ z. z ++ port_names (flat_map (device_ports x.desc) (devices x.desc))) (port_names_flat (host_ports x.desc) (hosts x.desc))
+    ∙ ap (λ z. flat_map (λ h. port_names (host_ports x.desc h)) (hosts x.desc) ++ z) (port_names_flat (device_ports x.desc) (devices x.desc)) in
+    subst Differ both (differ_back (port_names (map clock_port (clocks x.desc))) _
+    (subst Differ (port_names_join (map clock_port (clocks x.desc)) (flat_map (host_ports x.desc) (hosts x.desc) ++ flat_map (device_ports x.desc) (devices x.desc))) (ports_differ x d)))
 
-lanes_differ : (x : Crossbar) → NamesDiffer x → Differ (flat_map (λ h. entry_names (host_lanes x h)) (hosts x))
+lanes_differ : (x : Crossbar) → NamesDiffer x → Differ (flat_map (λ h. entry_names (host_lanes x.desc h)) (hosts x.desc))
 unfolding crossbar_entries
 lanes_differ x d =
-    let entries = differ_back (port_names (crossbar_ports x)) (entry_names (crossbar_entries x)) d in
-    let wires = differ_front (entry_names (crossbar_wires x)) (entry_names (crossbar_selects x ++ crossbar_parts x)) (subst Differ (entry_names_join (crossbar_wires x) (crossbar_selects x ++ crossbar_parts x)) entries) in
-    let later = differ_back (entry_names (flat_map (host_wires x) (hosts x))) (entry_names (flat_map (host_lanes x) (hosts x) ++ flat_map (device_wires x) (devices x)))
-    (subst Differ (entry_names_join (flat_map (host_wires x) (hosts x)) (flat_map (host_lanes x) (hosts x) ++ flat_map (device_wires x) (devices x))) wires) in
-    let first = differ_front (entry_names (flat_map (host_lanes x) (hosts x))) (entry_names (flat_map (device_wires x) (devices x)))
-    (subst Differ (entry_names_join (flat_map (host_lanes x) (hosts x)) (flat_map (device_wires x) (devices x))) later) in
-    subst Differ (entry_names_flat (host_lanes x) (hosts x)) first
+    let entries = differ_back (port_names (crossbar_ports x.desc)) (entry_names (crossbar_entries x)) d in
+    let wires = differ_front (entry_names (crossbar_wires x.desc)) (entry_names (crossbar_selects x ++ crossbar_parts x.desc)) (subst Differ (entry_names_join (crossbar_wires x.desc) (crossbar_selects x ++ crossbar_parts x.desc)) entries) in
+    let later = differ_back (entry_names (flat_map (host_wires x.desc) (hosts x.desc))) (entry_names (flat_map (host_lanes x.desc) (hosts x.desc) ++ flat_map (device_wires x.desc) (devices x.desc)))
+    (subst Differ (entry_names_join (flat_map (host_wires x.desc) (hosts x.desc)) (flat_map (host_lanes x.desc) (hosts x.desc) ++ flat_map (device_wires x.desc) (devices x.desc))) wires) in
+    let first = differ_front (entry_names (flat_map (host_lanes x.desc) (hosts x.desc))) (entry_names (flat_map (device_wires x.desc) (devices x.desc)))
+    (subst Differ (entry_names_join (flat_map (host_lanes x.desc) (hosts x.desc)) (flat_map (device_wires x.desc) (devices x.desc))) later) in
+    subst Differ (entry_names_flat (host_lanes x.desc) (hosts x.desc)) first
 
 -- ---- hosts, devices and pairs by their names
 
-pub same_host : (x : Crossbar) → NamesDiffer x → (h g : ℕ) → Among h (hosts x) → Among g (hosts x) → label x h ++ codes "_req" ≡ label x g ++ codes "_req" → h ≡ g
+pub same_host : (x : Crossbar) → NamesDiffer x → (h g : ℕ) → Among h (hosts x.desc) → Among g (hosts x.desc) → label x.desc h ++ codes "_req" ≡ label x.desc g ++ codes "_req" → h ≡ g
 same_host x d h g i j e =
-    owner (λ h. port_names (host_ports x h)) (hosts x) (differ_front _ (flat_map (λ d. port_names (device_ports x d)) (devices x)) (node_ports_differ x d)) h g (h_link x h).request i j
+    owner (λ h. port_names (host_ports x.desc h)) (hosts x.desc) (differ_front _ (flat_map (λ d. port_names (device_ports x.desc d)) (devices x.desc)) (node_ports_differ x d)) h g (h_link x.desc h).request i j
     (inl refl) (inl (ap (λ z. codes "h_" ++ z) e))
 
-pub same_device : (x : Crossbar) → NamesDiffer x → (d e : ℕ) → Among d (devices x) → Among e (devices x) → label x d ++ codes "_req" ≡ label x e ++ codes "_req" → d ≡ e
+pub same_device : (x : Crossbar) → NamesDiffer x → (d e : ℕ) → Among d (devices x.desc) → Among e (devices x.desc) → label x.desc d ++ codes "_req" ≡ label x.desc e ++ codes "_req" → d ≡ e
 same_device x n d e i j same =
-    owner (λ d. port_names (device_ports x d)) (devices x) (differ_back (flat_map (λ h. port_names (host_ports x h)) (hosts x)) _ (node_ports_differ x n)) d e (d_link x d).request i j
+    owner (λ d. port_names (device_ports x.desc d)) (devices x.desc) (differ_back (flat_map (λ h. port_names (host_ports x.desc h)) (hosts x.desc)) _ (node_ports_differ x n)) d e (d_link x.desc d).request i j
     (inl refl) (inl (ap (λ z. codes "d_" ++ z) same))
 
 -- a lane's wire is among its host's
-lane_named : (x : Crossbar) (h d : ℕ) → is_joined x d ≡ true → Among (l_link x h d).request (entry_names (lane_wires x h d))
-lane_named x h d e = subst (λ z. Among (l_link x h d).request (entry_names (entries_if z (link_wires (l_link x h d))))) (sym e) (inl refl)
+lane_named : (x : Crossbar) (h d : ℕ) → is_joined x.desc d ≡ true → Among (l_link x.desc h d).request (entry_names (lane_wires x.desc h d))
+lane_named x h d e = subst (λ z. Among (l_link x.desc h d).request (entry_names (entries_if z (link_wires (l_link x.desc h d))))) (sym e) (inl refl)
 
-lane_of_host : (x : Crossbar) (h d : ℕ) → Among d (reach x h) → is_joined x d ≡ true → Among (l_link x h d).request (entry_names (host_lanes x h))
+lane_of_host : (x : Crossbar) (h d : ℕ) → Among d (reach x.desc h) → is_joined x.desc d ≡ true → Among (l_link x.desc h d).request (entry_names (host_lanes x.desc h))
 lane_of_host x h d j e =
-    subst (Among (l_link x h d).request) (sym (entry_names_flat (lane_wires x h) (reach x h)))
-    (among_flat (λ d. entry_names (lane_wires x h d)) (reach x h) d (l_link x h d).request j (lane_named x h d e))
+    subst (Among (l_link x.desc h d).request) (sym (entry_names_flat (lane_wires x.desc h) (reach x.desc h)))
+    (among_flat (λ d. entry_names (lane_wires x.desc h d)) (reach x.desc h) d (l_link x.desc h d).request j (lane_named x h d e))
 
-pub same_lane : (x : Crossbar) → NamesDiffer x → (h d g e : ℕ) → Among h (hosts x) → Among d (reach x h) → is_joined x d ≡ true → Among g (hosts x) → Among e (reach x g) → is_joined x e ≡ true
-    → (l_link x h d).request ≡ (l_link x g e).request → d ≡ e
+pub same_lane : (x : Crossbar) → NamesDiffer x → (h d g e : ℕ) → Among h (hosts x.desc) → Among d (reach x.desc h) → is_joined x.desc d ≡ true → Among g (hosts x.desc) → Among e (reach x.desc g) → is_joined x.desc e ≡ true
+    → (l_link x.desc h d).request ≡ (l_link x.desc g e).request → d ≡ e
 same_lane x n h d g e i j t k m u same =
-    let host : h ≡ g = owner (λ h. entry_names (host_lanes x h)) (hosts x) (lanes_differ x n) h g (l_link x h d).request i k (lane_of_host x h d j t)
-    (subst (λ z. Among z (entry_names (host_lanes x g))) (sym same) (lane_of_host x g e m u)) in
-    let inner = subst Differ (entry_names_flat (lane_wires x h) (reach x h)) (inner_differ (λ h. entry_names (host_lanes x h)) (hosts x) (lanes_differ x n) h i) in
-    owner (λ d. entry_names (lane_wires x h d)) (reach x h) inner d e (l_link x h d).request j (subst (λ z. Among e (reach x z)) (sym host) m) (lane_named x h d t)
-    (subst (λ z. Among z (entry_names (lane_wires x h e))) (sym (same ∙ ap (λ z. (l_link x z e).request) (sym host))) (lane_named x h e u))
+    let host : h ≡ g = owner (λ h. entry_names (host_lanes x.desc h)) (hosts x.desc) (lanes_differ x n) h g (l_link x.desc h d).request i k (lane_of_host x h d j t)
+    (subst (λ z. Among z (entry_names (host_lanes x.desc g))) (sym same) (lane_of_host x g e m u)) in
+    let inner = subst Differ (entry_names_flat (lane_wires x.desc h) (reach x.desc h)) (inner_differ (λ h. entry_names (host_lanes x.desc h)) (hosts x.desc) (lanes_differ x n) h i) in
+    owner (λ d. entry_names (lane_wires x.desc h d)) (reach x.desc h) inner d e (l_link x.desc h d).request j (subst (λ z. Among e (reach x.desc z)) (sym host) m) (lane_named x h d t)
+    (subst (λ z. Among z (entry_names (lane_wires x.desc h e))) (sym (same ∙ ap (λ z. (l_link x.desc z e).request) (sym host))) (lane_named x h e u))
 
 -- ---- which nets are outputs
 
@@ -100,26 +100,26 @@ output_among p (q ∷ qs) (inr h) e = by (output_among p qs h e) q.input where
   by a true = a
 
 abbrev pub is_output_net : Crossbar → List ℕ → Bool
-is_output_net x n = is_among (outputs_of (crossbar_ports x)) n
+is_output_net x n = is_among (outputs_of (crossbar_ports x.desc)) n
 
-pub h_no_output : (x : Crossbar) → NamesDiffer x → (h : ℕ) → Among h (hosts x) → is_output_net x (h_link x h).request ≡ false
-h_no_output x d h i = fails _ (λ e. input_no_output (crossbar_ports x) (h_link x h).request (ports_differ x d)
-    (input_among (input_port 70 (h_link x h).request) (crossbar_ports x) (host_port_in x h _ i (inl refl)) refl) (among_by_test (outputs_of (crossbar_ports x)) _ e))
+pub h_no_output : (x : Crossbar) → NamesDiffer x → (h : ℕ) → Among h (hosts x.desc) → is_output_net x (h_link x.desc h).request ≡ false
+h_no_output x d h i = fails _ (λ e. input_no_output (crossbar_ports x.desc) (h_link x.desc h).request (ports_differ x d)
+    (input_among (input_port 70 (h_link x.desc h).request) (crossbar_ports x.desc) (host_port_in x h _ i (inl refl)) refl) (among_by_test (outputs_of (crossbar_ports x.desc)) _ e))
 
-pub d_is_output : (x : Crossbar) (d : ℕ) → Among d (devices x) → is_output_net x (d_link x d).request ≡ true
-d_is_output x d i = test_of_among (outputs_of (crossbar_ports x)) _ (output_among (output_port 70 (d_link x d).request) (crossbar_ports x) (device_port_in x d _ i (inl refl)) refl)
+pub d_is_output : (x : Crossbar) (d : ℕ) → Among d (devices x.desc) → is_output_net x (d_link x.desc d).request ≡ true
+d_is_output x d i = test_of_among (outputs_of (crossbar_ports x.desc)) _ (output_among (output_port 70 (d_link x.desc d).request) (crossbar_ports x.desc) (device_port_in x d _ i (inl refl)) refl)
 
-wire_no_output : (x : Crossbar) → NamesDiffer x → (w : ℕ) (n : List ℕ) → WireIn w n (crossbar_wires x) → is_output_net x n ≡ false
+wire_no_output : (x : Crossbar) → NamesDiffer x → (w : ℕ) (n : List ℕ) → WireIn w n (crossbar_wires x.desc) → is_output_net x n ≡ false
 unfolding crossbar_entries
-wire_no_output x d w n h = fails _ (λ e. differ_across n (port_names (crossbar_ports x)) (entry_names (crossbar_entries x)) d
-    (output_is_port (crossbar_ports x) n (among_by_test (outputs_of (crossbar_ports x)) n e))
-    (wire_named w n (crossbar_entries x) (wire_front w n (crossbar_wires x) (crossbar_selects x ++ crossbar_parts x) h)))
+wire_no_output x d w n h = fails _ (λ e. differ_across n (port_names (crossbar_ports x.desc)) (entry_names (crossbar_entries x)) d
+    (output_is_port (crossbar_ports x.desc) n (among_by_test (outputs_of (crossbar_ports x.desc)) n e))
+    (wire_named w n (crossbar_entries x) (wire_front w n (crossbar_wires x.desc) (crossbar_selects x ++ crossbar_parts x.desc) h)))
 
-pub f_no_output : (x : Crossbar) → NamesDiffer x → (h : ℕ) → Among h (hosts x) → has_fifo x h ≡ true → is_output_net x (f_link x h).request ≡ false
-f_no_output x d h i e = wire_no_output x d 70 _ (host_wire_in x h 70 _ i (subst (λ z. WireIn 70 (f_link x h).request (entries_if z (link_wires (f_link x h)))) (sym e) (inl (refl, refl))))
+pub f_no_output : (x : Crossbar) → NamesDiffer x → (h : ℕ) → Among h (hosts x.desc) → has_fifo x.desc h ≡ true → is_output_net x (f_link x.desc h).request ≡ false
+f_no_output x d h i e = wire_no_output x d 70 _ (host_wire_in x h 70 _ i (subst (λ z. WireIn 70 (f_link x.desc h).request (entries_if z (link_wires (f_link x.desc h)))) (sym e) (inl (refl, refl))))
 
-pub l_no_output : (x : Crossbar) → NamesDiffer x → (h d : ℕ) → Among h (hosts x) → Among d (reach x h) → is_joined x d ≡ true → is_output_net x (l_link x h d).request ≡ false
-l_no_output x n h d i j e = wire_no_output x n 70 _ (lane_wire_in x h d 70 _ i j (subst (λ z. WireIn 70 (l_link x h d).request (entries_if z (link_wires (l_link x h d)))) (sym e) (inl (refl, refl))))
+pub l_no_output : (x : Crossbar) → NamesDiffer x → (h d : ℕ) → Among h (hosts x.desc) → Among d (reach x.desc h) → is_joined x.desc d ≡ true → is_output_net x (l_link x.desc h d).request ≡ false
+l_no_output x n h d i j e = wire_no_output x n 70 _ (lane_wire_in x h d 70 _ i j (subst (λ z. WireIn 70 (l_link x.desc h d).request (entries_if z (link_wires (l_link x.desc h d)))) (sym e) (inl (refl, refl))))
 
-pub m_no_output : (x : Crossbar) → NamesDiffer x → (d : ℕ) → Among d (devices x) → has_fifo x d ≡ true → is_output_net x (m_link x d).request ≡ false
-m_no_output x n d i e = wire_no_output x n 70 _ (device_wire_in x d 70 _ i (subst (λ z. WireIn 70 (m_link x d).request (entries_if z (link_wires (m_link x d)))) (sym e) (inl (refl, refl))))
+pub m_no_output : (x : Crossbar) → NamesDiffer x → (d : ℕ) → Among d (devices x.desc) → has_fifo x.desc d ≡ true → is_output_net x (m_link x.desc d).request ≡ false
+m_no_output x n d i e = wire_no_output x n 70 _ (device_wire_in x d 70 _ i (subst (λ z. WireIn 70 (m_link x.desc d).request (entries_if z (link_wires (m_link x.desc d)))) (sym e) (inl (refl, refl))))

@@ -8,7 +8,7 @@ use Rattle.cg_svspec.specs.Tree.{Connection, Parameter, inst, Module}
 use Rattle.cg_svspec.proofs.NamesLemmas.{name_is_itself}
 use Rattle.cg_svspec.specs.Links.{Link, Onward, to, stuck, to_link, inside, number}
 use Rattle.cg_svspec.specs.Walk.{End, error, Place, within, same_place, Position, position, was_at, held_at, step_within, module_named, next, Way, goes, ended}
-use Rattle.cg_busspec.specs.Crossbar.{Crossbar, node, hosts, devices, reach, is_joined, has_fifo, some_holds}
+use Rattle.cg_busspec.specs.Crossbar.{device_ranges, Crossbar, node, hosts, devices, reach, is_joined, has_fifo, some_holds}
 use Rattle.cg_busspec.proofs.Good.{IsCrossbar}
 use Rattle.cg_busspec.specs.CrossbarModule.{h_link, f_link, l_link, m_link, d_link, socket_link, joined_link, lane, crossbar_module}
 use Rattle.cg_busspec.specs.Passage.{Passes, out, ends_here, over}
@@ -30,65 +30,65 @@ abbrev tail : List ℕ → List ℕ
 tail [] = []
 tail (c ∷ cs) = cs
 
-from_device : (x : Crossbar) → NamesDiffer x → (d : ℕ) (request : Bits) (held : List (List ℕ)) → Among d (devices x) → ((n : List ℕ) → is_among held (100 ∷ n) ≡ false)
-    → (b : Bool) → has_fifo x d ≡ b → Passes (crossbar_module x) request held (cond b (m_link x d) (d_link x d)) (Some (d_link x d))
-from_device x n d request held i new false e = out (at_device x d request ((d_link x d).request ∷ held) i)
+from_device : (x : Crossbar) → NamesDiffer x → (d : ℕ) (request : Bits) (held : List (List ℕ)) → Among d (devices x.desc) → ((n : List ℕ) → is_among held (100 ∷ n) ≡ false)
+    → (b : Bool) → has_fifo x.desc d ≡ b → Passes (crossbar_module x) request held (cond b (m_link x.desc d) (d_link x.desc d)) (Some (d_link x.desc d))
+from_device x n d request held i new false e = out (at_device x d request ((d_link x.desc d).request ∷ held) i)
 from_device x n d request held i new true e =
-    over (over_device_fifo x n d request ((m_link x d).request ∷ held) i e) (new (tail (d_link x d).request)) (out (at_device x d request ((d_link x d).request ∷ ((m_link x d).request ∷ held)) i))
+    over (over_device_fifo x n d request ((m_link x.desc d).request ∷ held) i e) (new (tail (d_link x.desc d).request)) (out (at_device x d request ((d_link x.desc d).request ∷ ((m_link x.desc d).request ∷ held)) i))
 
-from_lane : (x : Crossbar) → IsCrossbar x → NamesDiffer x → (h d : ℕ) (request : Bits) (held : List (List ℕ)) → Among h (hosts x) → Among d (reach x h) → Early held
-    → (b : Bool) → is_joined x d ≡ b → Passes (crossbar_module x) request held (cond b (l_link x h d) (joined_link x d)) (Some (d_link x d))
+from_lane : (x : Crossbar) → IsCrossbar x → NamesDiffer x → (h d : ℕ) (request : Bits) (held : List (List ℕ)) → Among h (hosts x.desc) → Among d (reach x.desc h) → Early held
+    → (b : Bool) → is_joined x.desc d ≡ b → Passes (crossbar_module x) request held (cond b (l_link x.desc h d) (joined_link x.desc d)) (Some (d_link x.desc d))
 unfolding joined_link
-from_lane x c n h d request held i j f false e = from_device x n d request held (c.reaches h d i j) f.no_d (has_fifo x d) refl
+from_lane x c n h d request held i j f false e = from_device x n d request held (c.reaches h d i j) f.no_d (has_fifo x.desc d) refl
 from_lane x c n h d request held i j f true e =
-    over (over_join x c n h d request ((l_link x h d).request ∷ held) i j e) (new (has_fifo x d)) (from_device x n d request ((l_link x h d).request ∷ held) (c.reaches h d i j) f.no_d (has_fifo x d) refl) where
-      new : (b : Bool) → is_among ((l_link x h d).request ∷ held) (cond b (m_link x d) (d_link x d)).request ≡ false
-      new true = f.no_m (tail (m_link x d).request)
-      new false = f.no_d (tail (d_link x d).request)
+    over (over_join x c n h d request ((l_link x.desc h d).request ∷ held) i j e) (new (has_fifo x.desc d)) (from_device x n d request ((l_link x.desc h d).request ∷ held) (c.reaches h d i j) f.no_d (has_fifo x.desc d) refl) where
+      new : (b : Bool) → is_among ((l_link x.desc h d).request ∷ held) (cond b (m_link x.desc d) (d_link x.desc d)).request ≡ false
+      new true = f.no_m (tail (m_link x.desc d).request)
+      new false = f.no_d (tail (d_link x.desc d).request)
 
-new_lane : (x : Crossbar) (h d : ℕ) (held : List (List ℕ)) → Early held → (b c : Bool) → is_among held (cond b (l_link x h d) (cond c (m_link x d) (d_link x d))).request ≡ false
-new_lane x h d held f true c = f.no_l (tail (l_link x h d).request)
-new_lane x h d held f false true = f.no_m (tail (m_link x d).request)
-new_lane x h d held f false false = f.no_d (tail (d_link x d).request)
+new_lane : (x : Crossbar) (h d : ℕ) (held : List (List ℕ)) → Early held → (b c : Bool) → is_among held (cond b (l_link x.desc h d) (cond c (m_link x.desc d) (d_link x.desc d))).request ≡ false
+new_lane x h d held f true c = f.no_l (tail (l_link x.desc h d).request)
+new_lane x h d held f false true = f.no_m (tail (m_link x.desc d).request)
+new_lane x h d held f false false = f.no_d (tail (d_link x.desc d).request)
 
-split_step : (x : Crossbar) → IsCrossbar x → NamesDiffer x → (h : ℕ) (request : Bits) (held : List (List ℕ)) → Among h (hosts x) → length request ≡ 70
-    → inside (crossbar_module x) request ((socket_link x h).request ∷ held) (socket_link x h)
-    ≡ to_link (slice_get (map (lane x h) (reach x h)) (first_with x (number (address_bits request)) 0 (reach x h)))
-split_step x c n h request held i long = over_split x c n h request ((socket_link x h).request ∷ held) i long (here (name_is_itself (socket_link x h).request)) where
-  here : bytes_eq (socket_link x h).request (socket_link x h).request ≡ true → is_among ((socket_link x h).request ∷ held) (socket_link x h).request ≡ true
+split_step : (x : Crossbar) → IsCrossbar x → NamesDiffer x → (h : ℕ) (request : Bits) (held : List (List ℕ)) → Among h (hosts x.desc) → length request ≡ 70
+    → inside (crossbar_module x) request ((socket_link x.desc h).request ∷ held) (socket_link x.desc h)
+    ≡ to_link (slice_get (map (lane x.desc h) (reach x.desc h)) (first_with x (number (address_bits request)) 0 (reach x.desc h)))
+split_step x c n h request held i long = over_split x c n h request ((socket_link x.desc h).request ∷ held) i long (here (name_is_itself (socket_link x.desc h).request)) where
+  here : bytes_eq (socket_link x.desc h).request (socket_link x.desc h).request ≡ true → is_among ((socket_link x.desc h).request ∷ held) (socket_link x.desc h).request ≡ true
   here e = rw e refl
 
-from_socket : (x : Crossbar) → IsCrossbar x → NamesDiffer x → (h d : ℕ) (request : Bits) (held : List (List ℕ)) → Among h (hosts x) → Among d (reach x h) → length request ≡ 70
-    → some_holds (number (address_bits request)) (node x d).ranges ≡ true → Early ((socket_link x h).request ∷ held)
-    → Passes (crossbar_module x) request held (socket_link x h) (Some (d_link x d))
+from_socket : (x : Crossbar) → IsCrossbar x → NamesDiffer x → (h d : ℕ) (request : Bits) (held : List (List ℕ)) → Among h (hosts x.desc) → Among d (reach x.desc h) → length request ≡ 70
+    → some_holds (number (address_bits request)) (device_ranges x d) ≡ true → Early ((socket_link x.desc h).request ∷ held)
+    → Passes (crossbar_module x) request held (socket_link x.desc h) (Some (d_link x.desc d))
 unfolding lane joined_link
 from_socket x c n h d request held i j long has f =
-    let named = named_device x (number (address_bits request)) (lane x h) (reach x h) d j has (λ e k t. c.apart h e d (number (address_bits request)) i k j t has) in
-    over (split_step x c n h request held i long ∙ ap to_link named) (new_lane x h d ((socket_link x h).request ∷ held) f (is_joined x d) (has_fifo x d))
-    (from_lane x c n h d request ((socket_link x h).request ∷ held) i j f (is_joined x d) refl)
+    let named = named_device x (number (address_bits request)) (lane x.desc h) (reach x.desc h) d j has (λ e k t. c.apart h e d (number (address_bits request)) i k j t has) in
+    over (split_step x c n h request held i long ∙ ap to_link named) (new_lane x h d ((socket_link x.desc h).request ∷ held) f (is_joined x.desc d) (has_fifo x.desc d))
+    (from_lane x c n h d request ((socket_link x.desc h).request ∷ held) i j f (is_joined x.desc d) refl)
 
-from_host : (x : Crossbar) → NamesDiffer x → (h : ℕ) (request : Bits) (o : Option Link) → Among h (hosts x)
-    → ((held : List (List ℕ)) → Early ((socket_link x h).request ∷ held) → Passes (crossbar_module x) request held (socket_link x h) o)
-    → (b : Bool) → has_fifo x h ≡ b → Passes (crossbar_module x) request [] (h_link x h) o
+from_host : (x : Crossbar) → NamesDiffer x → (h : ℕ) (request : Bits) (o : Option Link) → Among h (hosts x.desc)
+    → ((held : List (List ℕ)) → Early ((socket_link x.desc h).request ∷ held) → Passes (crossbar_module x) request held (socket_link x.desc h) o)
+    → (b : Bool) → has_fifo x.desc h ≡ b → Passes (crossbar_module x) request [] (h_link x.desc h) o
 unfolding socket_link
 from_host x n h request o i rest false no_fifo =
-    let same : socket_link x h ≡ h_link x h = ap (λ z. cond z (f_link x h) (h_link x h)) no_fifo in
+    let same : socket_link x.desc h ≡ h_link x.desc h = ap (λ z. cond z (f_link x.desc h) (h_link x.desc h)) no_fifo in
     subst (λ z. Passes (crossbar_module x) request [] z o) same
     (rest [] (subst (λ z. Early (z.request ∷ [])) (sym same) (record { no_l = λ n. refl; no_m = λ n. refl; no_d = λ n. refl })))
 from_host x n h request o i rest true fifo =
-    let same : socket_link x h ≡ f_link x h = ap (λ z. cond z (f_link x h) (h_link x h)) fifo in
-    over (over_host_fifo x n h request ((h_link x h).request ∷ []) i fifo) refl
-    (subst (λ z. Passes (crossbar_module x) request ((h_link x h).request ∷ []) z o) same
-    (rest ((h_link x h).request ∷ []) (subst (λ z. Early (z.request ∷ ((h_link x h).request ∷ []))) (sym same) (record { no_l = λ n. refl; no_m = λ n. refl; no_d = λ n. refl }))))
+    let same : socket_link x.desc h ≡ f_link x.desc h = ap (λ z. cond z (f_link x.desc h) (h_link x.desc h)) fifo in
+    over (over_host_fifo x n h request ((h_link x.desc h).request ∷ []) i fifo) refl
+    (subst (λ z. Passes (crossbar_module x) request ((h_link x.desc h).request ∷ []) z o) same
+    (rest ((h_link x.desc h).request ∷ []) (subst (λ z. Early (z.request ∷ ((h_link x.desc h).request ∷ []))) (sym same) (record { no_l = λ n. refl; no_m = λ n. refl; no_d = λ n. refl }))))
 
 -- The way inside a crossbar's module.
 pub crossbar_leads : (x : Crossbar) → IsCrossbar x → Differ (module_names (crossbar_module x)) → Leads (crossbar_module x) x
 crossbar_leads x c d =
     let n = names_differ x d in
     record {
-      leads = λ h e request i j long has. from_host x n h request (Some (d_link x e)) i (λ held f. from_socket x c n h e request held i j long has f) (has_fifo x h) refl;
+      leads = λ h e request i j long has. from_host x n h request (Some (d_link x.desc e)) i (λ held f. from_socket x c n h e request held i j long has f) (has_fifo x.desc h) refl;
       stops = λ h request i long all. from_host x n h request None i
-          (λ held f. ends_here (split_step x c n h request held i long ∙ ap to_link (no_device x (number (address_bits request)) (lane x h) (reach x h) all))) (has_fifo x h) refl;
+          (λ held f. ends_here (split_step x c n h request held i long ∙ ap to_link (no_device x (number (address_bits request)) (lane x.desc h) (reach x.desc h) all))) (has_fifo x.desc h) refl;
     }
 
 -- ---- as part of a way

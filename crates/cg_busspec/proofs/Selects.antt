@@ -17,7 +17,7 @@ use Rattle.cg_svspec.specs.Printable.{AllOf}
 use Rattle.cg_svspec.specs.Value.{Values, eval, eval_parts}
 use Rattle.cg_svspec.specs.Links.{number}
 use Rattle.cg_desc.specs.declared.crossbar.Range.{Range}
-use Rattle.cg_busspec.specs.Crossbar.{Crossbar, node, holds, some_holds}
+use Rattle.cg_busspec.specs.Crossbar.{device_ranges, Crossbar, node, holds, some_holds}
 use Rattle.cg_busspec.specs.Ranges.{IsRange}
 use Rattle.cg_busspec.specs.CrossbarModule.{halvings, power_of, range_term, range_terms, select}
 use Rattle.cg_svspec.proofs.BitLists.{any_bit-append, any_bit-one, same_bits-bits, drop-bits}
@@ -125,15 +125,15 @@ range_terms_are v q request is long (r ∷ rs) g =
 -- the number of the first device, from number j on, that has the address in a range
 abbrev pub first_with : Crossbar → ℕ → ℕ → List ℕ → ℕ
 first_with x a j [] = j
-first_with x a j (d ∷ ds) = cond (some_holds a (node x d).ranges) j (first_with x a (suc j) ds)
+first_with x a j (d ∷ ds) = cond (some_holds a (device_ranges x d)) j (first_with x a (suc j) ds)
 
 -- The select's value is that number.
 pub select_is : (v : Values) (x : Crossbar) (q : List ℕ) (request : Bits) → v q ≡ request → length request ≡ 70 → (j : ℕ) (ds : List ℕ)
-    → ((d : ℕ) → Among d ds → AllOf IsRange (node x d).ranges) → eval v (select x q j ds) ≡ bits 8 (first_with x (number (address_bits request)) j ds)
+    → ((d : ℕ) → Among d ds → AllOf IsRange (device_ranges x d)) → eval v (select x q j ds) ≡ bits 8 (first_with x (number (address_bits request)) j ds)
 select_is v x q request is long j [] g = refl
 select_is v x q request is long j (d ∷ ds) g =
-    rw (range_terms_are v q request is long (node x d).ranges (g d (inl refl)), select_is v x q request is long (suc j) ds (λ e h. g e (inr h)))
-    (by (some_holds (number (address_bits request)) (node x d).ranges)) where
+    rw (range_terms_are v q request is long (device_ranges x d) (g d (inl refl)), select_is v x q request is long (suc j) ds (λ e h. g e (inr h)))
+    (by (some_holds (number (address_bits request)) (device_ranges x d))) where
       by : (b : Bool) → chosen (b ∷ []) (bits 8 j) (bits 8 (first_with x (number (address_bits request)) (suc j) ds)) ≡ bits 8 (cond b j (first_with x (number (address_bits request)) (suc j) ds))
       by true = refl
       by false = refl

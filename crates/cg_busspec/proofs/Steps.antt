@@ -7,7 +7,7 @@ use Rattle.cg_svspec.specs.Tree.{net, Entry}
 use Rattle.cg_svspec.specs.Names.{is_among, Among}
 use Rattle.cg_svspec.specs.WellFormed.{Net}
 use Rattle.cg_svspec.specs.Links.{Link, Known, to, leaves, to_link, inside, known_of, number, selected}
-use Rattle.cg_busspec.specs.Crossbar.{Crossbar, node, hosts, devices, label, reach, feeders, is_joined, has_fifo, some_holds}
+use Rattle.cg_busspec.specs.Crossbar.{device_ranges, Crossbar, node, hosts, devices, label, reach, feeders, is_joined, has_fifo, some_holds}
 use Rattle.cg_busspec.proofs.Good.{IsCrossbar}
 use Rattle.cg_busspec.specs.CrossbarModule.{h_link, f_link, l_link, m_link, d_link, sel, socket_link, joined_link, lane, entries_if, link_wires, host_wires, lane_wires, host_lanes, device_wires, host_select, host_fifo_entry, host_split_entry, device_join_entry, device_fifo_entry, host_parts, device_parts, join_lanes, requests, crossbar_wires, crossbar_selects, crossbar_parts, crossbar_entries, crossbar_module}
 use Rattle.cg_busspec.proofs.PartWays.{through, Skips, skips_join, skips_if, skips_flat, through_flat, fifo_skips, fifo_goes, split_skips, split_goes, join_skips, join_goes}
@@ -19,13 +19,13 @@ use Rattle.cg_busspec.proofs.Sums.{short}
 use Rattle.cg_busspec.proofs.Knows.{select_told}
 
 -- the other lists of entries take no request
-wires_skip : (nets : List Net) (k : Known) (l : Link) (x : Crossbar) → Skips nets k l (crossbar_wires x)
+wires_skip : (nets : List Net) (k : Known) (l : Link) (x : Crossbar) → Skips nets k l (crossbar_wires x.desc)
 wires_skip nets k l x =
-    skips_join nets k l (flat_map (host_wires x) (hosts x)) (flat_map (host_lanes x) (hosts x) ++ flat_map (device_wires x) (devices x))
-    (skips_flat nets k l (host_wires x) (hosts x) (λ h i. skips_if nets k l (has_fifo x h) (link_wires (f_link x h)) (λ e rest. refl)))
-    (skips_join nets k l (flat_map (host_lanes x) (hosts x)) (flat_map (device_wires x) (devices x))
-    (skips_flat nets k l (host_lanes x) (hosts x) (λ h i. skips_flat nets k l (lane_wires x h) (reach x h) (λ d j. skips_if nets k l (is_joined x d) (link_wires (l_link x h d)) (λ e rest. refl))))
-    (skips_flat nets k l (device_wires x) (devices x) (λ d i. skips_if nets k l (has_fifo x d) (link_wires (m_link x d)) (λ e rest. refl))))
+    skips_join nets k l (flat_map (host_wires x.desc) (hosts x.desc)) (flat_map (host_lanes x.desc) (hosts x.desc) ++ flat_map (device_wires x.desc) (devices x.desc))
+    (skips_flat nets k l (host_wires x.desc) (hosts x.desc) (λ h i. skips_if nets k l (has_fifo x.desc h) (link_wires (f_link x.desc h)) (λ e rest. refl)))
+    (skips_join nets k l (flat_map (host_lanes x.desc) (hosts x.desc)) (flat_map (device_wires x.desc) (devices x.desc))
+    (skips_flat nets k l (host_lanes x.desc) (hosts x.desc) (λ h i. skips_flat nets k l (lane_wires x.desc h) (reach x.desc h) (λ d j. skips_if nets k l (is_joined x.desc d) (link_wires (l_link x.desc h d)) (λ e rest. refl))))
+    (skips_flat nets k l (device_wires x.desc) (devices x.desc) (λ d i. skips_if nets k l (has_fifo x.desc d) (link_wires (m_link x.desc d)) (λ e rest. refl))))
 
 selects_skip : (nets : List Net) (k : Known) (l : Link) (x : Crossbar) (hs : List ℕ) → Skips nets k l (map (host_select x) hs)
 selects_skip nets k l x [] rest = refl
@@ -41,24 +41,24 @@ abbrev known : Crossbar → Bits → List (List ℕ) → Known
 known x request held = known_of (crossbar_module x) request held
 
 -- through a host's parts, or a device's
-through_host : (x : Crossbar) (k : Known) (l : Link) (h : ℕ) (r : Option Link) → Among h (hosts x)
-    → ((g : ℕ) → Among g (hosts x) → (g ≡ h → ⊥) → Skips (all_nets x) k l (host_parts x g)) → ((rest : List Entry) → through (all_nets x) k l (host_parts x h ++ rest) ≡ r)
+through_host : (x : Crossbar) (k : Known) (l : Link) (h : ℕ) (r : Option Link) → Among h (hosts x.desc)
+    → ((g : ℕ) → Among g (hosts x.desc) → (g ≡ h → ⊥) → Skips (all_nets x) k l (host_parts x.desc g)) → ((rest : List Entry) → through (all_nets x) k l (host_parts x.desc h ++ rest) ≡ r)
     → through (all_nets x) k l (crossbar_entries x) ≡ r
 unfolding crossbar_entries
 through_host x k l h r i others here =
-    wires_skip (all_nets x) k l x (crossbar_selects x ++ crossbar_parts x) ∙ selects_skip (all_nets x) k l x (hosts x) (crossbar_parts x)
-    ∙ through_flat (all_nets x) k l (host_parts x) (hosts x) h r i others here (flat_map (device_parts x) (devices x))
+    wires_skip (all_nets x) k l x (crossbar_selects x ++ crossbar_parts x.desc) ∙ selects_skip (all_nets x) k l x (hosts x.desc) (crossbar_parts x.desc)
+    ∙ through_flat (all_nets x) k l (host_parts x.desc) (hosts x.desc) h r i others here (flat_map (device_parts x.desc) (devices x.desc))
 
-through_device : (x : Crossbar) (k : Known) (l : Link) (d : ℕ) (r : Option Link) → Among d (devices x)
-    → ((h : ℕ) → Among h (hosts x) → Skips (all_nets x) k l (host_parts x h))
-    → ((e : ℕ) → Among e (devices x) → (e ≡ d → ⊥) → Skips (all_nets x) k l (device_parts x e)) → ((rest : List Entry) → through (all_nets x) k l (device_parts x d ++ rest) ≡ r)
+through_device : (x : Crossbar) (k : Known) (l : Link) (d : ℕ) (r : Option Link) → Among d (devices x.desc)
+    → ((h : ℕ) → Among h (hosts x.desc) → Skips (all_nets x) k l (host_parts x.desc h))
+    → ((e : ℕ) → Among e (devices x.desc) → (e ≡ d → ⊥) → Skips (all_nets x) k l (device_parts x.desc e)) → ((rest : List Entry) → through (all_nets x) k l (device_parts x.desc d ++ rest) ≡ r)
     → through (all_nets x) k l (crossbar_entries x) ≡ r
 unfolding crossbar_entries
 through_device x k l d r i hosts_skip others here =
-    wires_skip (all_nets x) k l x (crossbar_selects x ++ crossbar_parts x) ∙ selects_skip (all_nets x) k l x (hosts x) (crossbar_parts x)
-    ∙ skips_flat (all_nets x) k l (host_parts x) (hosts x) hosts_skip (flat_map (device_parts x) (devices x))
-    ∙ ap (through (all_nets x) k l) (sym (nothing_behind (flat_map (device_parts x) (devices x))))
-    ∙ through_flat (all_nets x) k l (device_parts x) (devices x) d r i others here []
+    wires_skip (all_nets x) k l x (crossbar_selects x ++ crossbar_parts x.desc) ∙ selects_skip (all_nets x) k l x (hosts x.desc) (crossbar_parts x.desc)
+    ∙ skips_flat (all_nets x) k l (host_parts x.desc) (hosts x.desc) hosts_skip (flat_map (device_parts x.desc) (devices x.desc))
+    ∙ ap (through (all_nets x) k l) (sym (nothing_behind (flat_map (device_parts x.desc) (devices x.desc))))
+    ∙ through_flat (all_nets x) k l (device_parts x.desc) (devices x.desc) d r i others here []
 
 -- a step inside, where the net is no output
 inside_goes : (x : Crossbar) (request : Bits) (held : List (List ℕ)) (l : Link) (r : Option Link) → is_output_net x l.request ≡ false
@@ -73,58 +73,58 @@ inside_leaves x request held l output = rw output refl
 -- ---- names of hosts
 
 -- of two hosts' links with one start
-other_named : (x : Crossbar) → NamesDiffer x → (start : List ℕ) (h g : ℕ) → Among h (hosts x) → Among g (hosts x) → (g ≡ h → ⊥)
-    → start ++ (label x h ++ codes "_req") ≡ start ++ (label x g ++ codes "_req") → ⊥
-other_named x n start h g i j other e = other (same_host x n g h j i (sym (append_cancel_left start (label x h ++ codes "_req") (label x g ++ codes "_req") e)))
+other_named : (x : Crossbar) → NamesDiffer x → (start : List ℕ) (h g : ℕ) → Among h (hosts x.desc) → Among g (hosts x.desc) → (g ≡ h → ⊥)
+    → start ++ (label x.desc h ++ codes "_req") ≡ start ++ (label x.desc g ++ codes "_req") → ⊥
+other_named x n start h g i j other e = other (same_host x n g h j i (sym (append_cancel_left start (label x.desc h ++ codes "_req") (label x.desc g ++ codes "_req") e)))
 
 -- the request at a host's socket is not another's
-h_no_socket : (x : Crossbar) → NamesDiffer x → (h g : ℕ) → Among h (hosts x) → Among g (hosts x) → (g ≡ h → ⊥) → (h_link x h).request ≡ (socket_link x g).request → ⊥
+h_no_socket : (x : Crossbar) → NamesDiffer x → (h g : ℕ) → Among h (hosts x.desc) → Among g (hosts x.desc) → (g ≡ h → ⊥) → (h_link x.desc h).request ≡ (socket_link x.desc g).request → ⊥
 unfolding socket_link
-h_no_socket x n h g i j other = by (has_fifo x g) where
-  by : (b : Bool) → (h_link x h).request ≡ (cond b (f_link x g) (h_link x g)).request → ⊥
-  by true = clash (h_link x h).request (f_link x g).request refl
+h_no_socket x n h g i j other = by (has_fifo x.desc g) where
+  by : (b : Bool) → (h_link x.desc h).request ≡ (cond b (f_link x.desc g) (h_link x.desc g)).request → ⊥
+  by true = clash (h_link x.desc h).request (f_link x.desc g).request refl
   by false = other_named x n (codes "h_") h g i j other
 
-socket_no_h : (x : Crossbar) → NamesDiffer x → (h g : ℕ) → Among h (hosts x) → Among g (hosts x) → (g ≡ h → ⊥) → (socket_link x h).request ≡ (h_link x g).request → ⊥
+socket_no_h : (x : Crossbar) → NamesDiffer x → (h g : ℕ) → Among h (hosts x.desc) → Among g (hosts x.desc) → (g ≡ h → ⊥) → (socket_link x.desc h).request ≡ (h_link x.desc g).request → ⊥
 unfolding socket_link
-socket_no_h x n h g i j other = by (has_fifo x h) where
-  by : (b : Bool) → (cond b (f_link x h) (h_link x h)).request ≡ (h_link x g).request → ⊥
-  by true = clash (f_link x h).request (h_link x g).request refl
+socket_no_h x n h g i j other = by (has_fifo x.desc h) where
+  by : (b : Bool) → (cond b (f_link x.desc h) (h_link x.desc h)).request ≡ (h_link x.desc g).request → ⊥
+  by true = clash (f_link x.desc h).request (h_link x.desc g).request refl
   by false = other_named x n (codes "h_") h g i j other
 
-socket_no_socket : (x : Crossbar) → NamesDiffer x → (h g : ℕ) → Among h (hosts x) → Among g (hosts x) → (g ≡ h → ⊥) → (socket_link x h).request ≡ (socket_link x g).request → ⊥
+socket_no_socket : (x : Crossbar) → NamesDiffer x → (h g : ℕ) → Among h (hosts x.desc) → Among g (hosts x.desc) → (g ≡ h → ⊥) → (socket_link x.desc h).request ≡ (socket_link x.desc g).request → ⊥
 unfolding socket_link
-socket_no_socket x n h g i j other = by (has_fifo x h) (has_fifo x g) where
-  by : (b c : Bool) → (cond b (f_link x h) (h_link x h)).request ≡ (cond c (f_link x g) (h_link x g)).request → ⊥
+socket_no_socket x n h g i j other = by (has_fifo x.desc h) (has_fifo x.desc g) where
+  by : (b c : Bool) → (cond b (f_link x.desc h) (h_link x.desc h)).request ≡ (cond c (f_link x.desc g) (h_link x.desc g)).request → ⊥
   by true true = other_named x n (codes "f_") h g i j other
-  by true false = clash (f_link x h).request (h_link x g).request refl
-  by false true = clash (h_link x h).request (f_link x g).request refl
+  by true false = clash (f_link x.desc h).request (h_link x.desc g).request refl
+  by false true = clash (h_link x.desc h).request (f_link x.desc g).request refl
   by false false = other_named x n (codes "h_") h g i j other
 
 -- ---- the steps
 
 -- over the host's FIFO
-pub over_host_fifo : (x : Crossbar) → NamesDiffer x → (h : ℕ) (request : Bits) (held : List (List ℕ)) → Among h (hosts x) → has_fifo x h ≡ true
-    → inside (crossbar_module x) request held (h_link x h) ≡ to (f_link x h)
+pub over_host_fifo : (x : Crossbar) → NamesDiffer x → (h : ℕ) (request : Bits) (held : List (List ℕ)) → Among h (hosts x.desc) → has_fifo x.desc h ≡ true
+    → inside (crossbar_module x) request held (h_link x.desc h) ≡ to (f_link x.desc h)
 over_host_fifo x n h request held i fifo =
-    inside_goes x request held (h_link x h) (Some (f_link x h)) (h_no_output x n h i)
-    (through_host x k (h_link x h) h (Some (f_link x h)) i others here) where
+    inside_goes x request held (h_link x.desc h) (Some (f_link x.desc h)) (h_no_output x n h i)
+    (through_host x k (h_link x.desc h) h (Some (f_link x.desc h)) i others here) where
       k : Known
       k = known x request held
 
-      others : (g : ℕ) → Among g (hosts x) → (g ≡ h → ⊥) → Skips (all_nets x) k (h_link x h) (host_parts x g)
+      others : (g : ℕ) → Among g (hosts x.desc) → (g ≡ h → ⊥) → Skips (all_nets x) k (h_link x.desc h) (host_parts x.desc g)
       others g j other =
-          skips_join (all_nets x) k (h_link x h) (entries_if (has_fifo x g) (host_fifo_entry x g ∷ [])) (host_split_entry x g ∷ [])
-          (skips_if (all_nets x) k (h_link x h) (has_fifo x g) (host_fifo_entry x g ∷ []) (λ e. fifo_skips (all_nets x) k (h_link x h) (codes "u_hf_" ++ label x g) (node x g).clock x.clock (h_link x g) (f_link x g) (other_named x n (codes "h_") h g i j other)))
-          (split_skips (all_nets x) k (h_link x h) (codes "u_s_" ++ label x g) x.clock (sel x g) (socket_link x g) (map (lane x g) (reach x g)) (h_no_socket x n h g i j other))
+          skips_join (all_nets x) k (h_link x.desc h) (entries_if (has_fifo x.desc g) (host_fifo_entry x.desc g ∷ [])) (host_split_entry x.desc g ∷ [])
+          (skips_if (all_nets x) k (h_link x.desc h) (has_fifo x.desc g) (host_fifo_entry x.desc g ∷ []) (λ e. fifo_skips (all_nets x) k (h_link x.desc h) (codes "u_hf_" ++ label x.desc g) (node x.desc g).clock x.desc.clock (h_link x.desc g) (f_link x.desc g) (other_named x n (codes "h_") h g i j other)))
+          (split_skips (all_nets x) k (h_link x.desc h) (codes "u_s_" ++ label x.desc g) x.desc.clock (sel x.desc g) (socket_link x.desc g) (map (lane x.desc g) (reach x.desc g)) (h_no_socket x n h g i j other))
 
-      here : (rest : List Entry) → through (all_nets x) k (h_link x h) (host_parts x h ++ rest) ≡ Some (f_link x h)
-      here rest = rw fifo (fifo_goes (all_nets x) k (codes "u_hf_" ++ label x h) (node x h).clock x.clock (h_link x h) (f_link x h) (h_declared x h i) (f_declared x h i fifo) (host_split_entry x h ∷ rest))
+      here : (rest : List Entry) → through (all_nets x) k (h_link x.desc h) (host_parts x.desc h ++ rest) ≡ Some (f_link x.desc h)
+      here rest = rw fifo (fifo_goes (all_nets x) k (codes "u_hf_" ++ label x.desc h) (node x.desc h).clock x.desc.clock (h_link x.desc h) (f_link x.desc h) (h_declared x h i) (f_declared x h i fifo) (host_split_entry x.desc h ∷ rest))
 
 -- a select names a place among the devices, or that behind them
 up_to_end : (x : Crossbar) (a j : ℕ) (ds : List ℕ) → first_with x a j ds ≤ j + length ds
 up_to_end x a j [] = omega arith
-up_to_end x a j (d ∷ ds) = by (up_to_end x a (suc j) ds) (some_holds a (node x d).ranges) where
+up_to_end x a j (d ∷ ds) = by (up_to_end x a (suc j) ds) (some_holds a (device_ranges x d)) where
   by : first_with x a (suc j) ds ≤ suc j + length ds → (b : Bool) → cond b j (first_with x a (suc j) ds) ≤ j + suc (length ds)
   by h true = omega arith
   by h false = omega (arith, h)
@@ -132,54 +132,54 @@ up_to_end x a j (d ∷ ds) = by (up_to_end x a (suc j) ds) (some_holds a (node x
 few_first : (x : Crossbar) (a : ℕ) (ds : List ℕ) → length ds ≤ 64 → first_with x a 0 ds < 2 ^ 8
 few_first x a ds few = omega (arith, up_to_end x a 0 ds, few)
 
-socket_no_output : (x : Crossbar) → NamesDiffer x → (h : ℕ) → Among h (hosts x) → (b : Bool) → has_fifo x h ≡ b → is_output_net x (socket_link x h).request ≡ false
+socket_no_output : (x : Crossbar) → NamesDiffer x → (h : ℕ) → Among h (hosts x.desc) → (b : Bool) → has_fifo x.desc h ≡ b → is_output_net x (socket_link x.desc h).request ≡ false
 unfolding socket_link
 socket_no_output x n h i true e = rw e (f_no_output x n h i e)
 socket_no_output x n h i false e = rw e (h_no_output x n h i)
 
-own_fifo : (x : Crossbar) (h : ℕ) → has_fifo x h ≡ true → (socket_link x h).request ≡ (h_link x h).request → ⊥
+own_fifo : (x : Crossbar) (h : ℕ) → has_fifo x.desc h ≡ true → (socket_link x.desc h).request ≡ (h_link x.desc h).request → ⊥
 unfolding socket_link
-own_fifo x h e = rw e (clash (f_link x h).request (h_link x h).request refl)
+own_fifo x h e = rw e (clash (f_link x.desc h).request (h_link x.desc h).request refl)
 
 -- over the host's socket, to the output that the address names
-pub over_split : (x : Crossbar) → IsCrossbar x → NamesDiffer x → (h : ℕ) (request : Bits) (held : List (List ℕ)) → Among h (hosts x) → length request ≡ 70 → is_among held (socket_link x h).request ≡ true
-    → inside (crossbar_module x) request held (socket_link x h) ≡ to_link (slice_get (map (lane x h) (reach x h)) (first_with x (number (address_bits request)) 0 (reach x h)))
+pub over_split : (x : Crossbar) → IsCrossbar x → NamesDiffer x → (h : ℕ) (request : Bits) (held : List (List ℕ)) → Among h (hosts x.desc) → length request ≡ 70 → is_among held (socket_link x.desc h).request ≡ true
+    → inside (crossbar_module x) request held (socket_link x.desc h) ≡ to_link (slice_get (map (lane x.desc h) (reach x.desc h)) (first_with x (number (address_bits request)) 0 (reach x.desc h)))
 over_split x c n h request held i long way =
-    inside_goes x request held (socket_link x h) (slice_get lanes (first_with x (number (address_bits request)) 0 (reach x h))) (socket_no_output x n h i (has_fifo x h) refl)
-    (through_host x k (socket_link x h) h (slice_get lanes (first_with x (number (address_bits request)) 0 (reach x h))) i others here) where
+    inside_goes x request held (socket_link x.desc h) (slice_get lanes (first_with x (number (address_bits request)) 0 (reach x.desc h))) (socket_no_output x n h i (has_fifo x.desc h) refl)
+    (through_host x k (socket_link x.desc h) h (slice_get lanes (first_with x (number (address_bits request)) 0 (reach x.desc h))) i others here) where
       k : Known
       k = known x request held
 
       lanes : List Link
-      lanes = map (lane x h) (reach x h)
+      lanes = map (lane x.desc h) (reach x.desc h)
 
-      others : (g : ℕ) → Among g (hosts x) → (g ≡ h → ⊥) → Skips (all_nets x) k (socket_link x h) (host_parts x g)
+      others : (g : ℕ) → Among g (hosts x.desc) → (g ≡ h → ⊥) → Skips (all_nets x) k (socket_link x.desc h) (host_parts x.desc g)
       others g j other =
-          skips_join (all_nets x) k (socket_link x h) (entries_if (has_fifo x g) (host_fifo_entry x g ∷ [])) (host_split_entry x g ∷ [])
-          (skips_if (all_nets x) k (socket_link x h) (has_fifo x g) (host_fifo_entry x g ∷ []) (λ e. fifo_skips (all_nets x) k (socket_link x h) (codes "u_hf_" ++ label x g) (node x g).clock x.clock (h_link x g) (f_link x g) (socket_no_h x n h g i j other)))
-          (split_skips (all_nets x) k (socket_link x h) (codes "u_s_" ++ label x g) x.clock (sel x g) (socket_link x g) (map (lane x g) (reach x g)) (socket_no_socket x n h g i j other))
+          skips_join (all_nets x) k (socket_link x.desc h) (entries_if (has_fifo x.desc g) (host_fifo_entry x.desc g ∷ [])) (host_split_entry x.desc g ∷ [])
+          (skips_if (all_nets x) k (socket_link x.desc h) (has_fifo x.desc g) (host_fifo_entry x.desc g ∷ []) (λ e. fifo_skips (all_nets x) k (socket_link x.desc h) (codes "u_hf_" ++ label x.desc g) (node x.desc g).clock x.desc.clock (h_link x.desc g) (f_link x.desc g) (socket_no_h x n h g i j other)))
+          (split_skips (all_nets x) k (socket_link x.desc h) (codes "u_s_" ++ label x.desc g) x.desc.clock (sel x.desc g) (socket_link x.desc g) (map (lane x.desc g) (reach x.desc g)) (socket_no_socket x n h g i j other))
 
-      index : number (bits 8 (first_with x (number (address_bits request)) 0 (reach x h))) ≡ first_with x (number (address_bits request)) 0 (reach x h)
-      index = number-bits 8 (first_with x (number (address_bits request)) 0 (reach x h)) (few_first x (number (address_bits request)) (reach x h) (short x c h i))
+      index : number (bits 8 (first_with x (number (address_bits request)) 0 (reach x.desc h))) ≡ first_with x (number (address_bits request)) 0 (reach x.desc h)
+      index = number-bits 8 (first_with x (number (address_bits request)) 0 (reach x.desc h)) (few_first x (number (address_bits request)) (reach x.desc h) (short x c h i))
 
-      tells : selected k (Some (net (sel x h))) lanes ≡ slice_get lanes (first_with x (number (address_bits request)) 0 (reach x h))
+      tells : selected k (Some (net (sel x.desc h))) lanes ≡ slice_get lanes (first_with x (number (address_bits request)) 0 (reach x.desc h))
       tells = let told = select_told x c n h request held i long way in rw (told.known, told.value, index) refl
 
-      here : (rest : List Entry) → through (all_nets x) k (socket_link x h) (host_parts x h ++ rest) ≡ slice_get lanes (first_with x (number (address_bits request)) 0 (reach x h))
+      here : (rest : List Entry) → through (all_nets x) k (socket_link x.desc h) (host_parts x.desc h ++ rest) ≡ slice_get lanes (first_with x (number (address_bits request)) 0 (reach x.desc h))
       here rest =
-          ap (through (all_nets x) k (socket_link x h)) (append_assoc (entries_if (has_fifo x h) (host_fifo_entry x h ∷ [])) (host_split_entry x h ∷ []) rest)
-          ∙ skips_if (all_nets x) k (socket_link x h) (has_fifo x h) (host_fifo_entry x h ∷ []) (λ e. fifo_skips (all_nets x) k (socket_link x h) (codes "u_hf_" ++ label x h) (node x h).clock x.clock (h_link x h) (f_link x h) (own_fifo x h e)) (host_split_entry x h ∷ rest)
-          ∙ split_goes (all_nets x) k (codes "u_s_" ++ label x h) x.clock (sel x h) (socket_link x h) lanes (socket_declared x h i) (links_declared (all_nets x) (lane x h) (reach x h) (λ d j. lane_declared x c h d i j)) rest
+          ap (through (all_nets x) k (socket_link x.desc h)) (append_assoc (entries_if (has_fifo x.desc h) (host_fifo_entry x.desc h ∷ [])) (host_split_entry x.desc h ∷ []) rest)
+          ∙ skips_if (all_nets x) k (socket_link x.desc h) (has_fifo x.desc h) (host_fifo_entry x.desc h ∷ []) (λ e. fifo_skips (all_nets x) k (socket_link x.desc h) (codes "u_hf_" ++ label x.desc h) (node x.desc h).clock x.desc.clock (h_link x.desc h) (f_link x.desc h) (own_fifo x h e)) (host_split_entry x.desc h ∷ rest)
+          ∙ split_goes (all_nets x) k (codes "u_s_" ++ label x.desc h) x.desc.clock (sel x.desc h) (socket_link x.desc h) lanes (socket_declared x h i) (links_declared (all_nets x) (lane x.desc h) (reach x.desc h) (λ d j. lane_declared x c h d i j)) rest
           ∙ tells
 
 -- hosts' parts take no request of another start
-hosts_skip : (x : Crossbar) (k : Known) (l : Link) → ((g : ℕ) → l.request ≡ (h_link x g).request → ⊥) → ((g : ℕ) → l.request ≡ (f_link x g).request → ⊥) → (g : ℕ) → Skips (all_nets x) k l (host_parts x g)
+hosts_skip : (x : Crossbar) (k : Known) (l : Link) → ((g : ℕ) → l.request ≡ (h_link x.desc g).request → ⊥) → ((g : ℕ) → l.request ≡ (f_link x.desc g).request → ⊥) → (g : ℕ) → Skips (all_nets x) k l (host_parts x.desc g)
 unfolding socket_link
 hosts_skip x k l no_h no_f g =
-    skips_join (all_nets x) k l (entries_if (has_fifo x g) (host_fifo_entry x g ∷ [])) (host_split_entry x g ∷ [])
-    (skips_if (all_nets x) k l (has_fifo x g) (host_fifo_entry x g ∷ []) (λ e. fifo_skips (all_nets x) k l (codes "u_hf_" ++ label x g) (node x g).clock x.clock (h_link x g) (f_link x g) (no_h g)))
-    (split_skips (all_nets x) k l (codes "u_s_" ++ label x g) x.clock (sel x g) (socket_link x g) (map (lane x g) (reach x g)) (by (has_fifo x g))) where
-      by : (b : Bool) → l.request ≡ (cond b (f_link x g) (h_link x g)).request → ⊥
+    skips_join (all_nets x) k l (entries_if (has_fifo x.desc g) (host_fifo_entry x.desc g ∷ [])) (host_split_entry x.desc g ∷ [])
+    (skips_if (all_nets x) k l (has_fifo x.desc g) (host_fifo_entry x.desc g ∷ []) (λ e. fifo_skips (all_nets x) k l (codes "u_hf_" ++ label x.desc g) (node x.desc g).clock x.desc.clock (h_link x.desc g) (f_link x.desc g) (no_h g)))
+    (split_skips (all_nets x) k l (codes "u_s_" ++ label x.desc g) x.desc.clock (sel x.desc g) (socket_link x.desc g) (map (lane x.desc g) (reach x.desc g)) (by (has_fifo x.desc g))) where
+      by : (b : Bool) → l.request ≡ (cond b (f_link x.desc g) (h_link x.desc g)).request → ⊥
       by true = no_f g
       by false = no_h g
 
@@ -196,62 +196,62 @@ request_of_number f (j ∷ js) n (inl e) = (j, inl refl, e)
 request_of_number f (j ∷ js) n (inr a) = let r = request_of_number f js n a in (r.0, inr r.1, r.2)
 
 -- over the M-to-1 socket
-pub over_join : (x : Crossbar) → IsCrossbar x → NamesDiffer x → (h d : ℕ) (request : Bits) (held : List (List ℕ)) → Among h (hosts x) → Among d (reach x h) → is_joined x d ≡ true
-    → inside (crossbar_module x) request held (l_link x h d) ≡ to (joined_link x d)
+pub over_join : (x : Crossbar) → IsCrossbar x → NamesDiffer x → (h d : ℕ) (request : Bits) (held : List (List ℕ)) → Among h (hosts x.desc) → Among d (reach x.desc h) → is_joined x.desc d ≡ true
+    → inside (crossbar_module x) request held (l_link x.desc h d) ≡ to (joined_link x.desc d)
 over_join x c n h d request held i j joined =
-    inside_goes x request held (l_link x h d) (Some (joined_link x d)) (l_no_output x n h d i j joined)
-    (through_device x k (l_link x h d) d (Some (joined_link x d)) (c.reaches h d i j)
-    (λ g m. hosts_skip x k (l_link x h d) (λ g. clash (l_link x h d).request (h_link x g).request refl) (λ g. clash (l_link x h d).request (f_link x g).request refl) g) others here) where
+    inside_goes x request held (l_link x.desc h d) (Some (joined_link x.desc d)) (l_no_output x n h d i j joined)
+    (through_device x k (l_link x.desc h d) d (Some (joined_link x.desc d)) (c.reaches h d i j)
+    (λ g m. hosts_skip x k (l_link x.desc h d) (λ g. clash (l_link x.desc h d).request (h_link x.desc g).request refl) (λ g. clash (l_link x.desc h d).request (f_link x.desc g).request refl) g) others here) where
       k : Known
       k = known x request held
 
-      not_theirs : (e : ℕ) → (e ≡ d → ⊥) → is_joined x e ≡ true → Among (l_link x h d).request (requests (join_lanes x e)) → ⊥
+      not_theirs : (e : ℕ) → (e ≡ d → ⊥) → is_joined x.desc e ≡ true → Among (l_link x.desc h d).request (requests (join_lanes x.desc e)) → ⊥
       not_theirs e other t a =
-          let r = request_of_number (λ g. l_link x g e) (feeders x e) (l_link x h d).request a in
-          let both = feeder_is x r.0 e r.1 in
+          let r = request_of_number (λ g. l_link x.desc g e) (feeders x.desc e) (l_link x.desc h d).request a in
+          let both = feeder_is x.desc r.0 e r.1 in
           other (sym (same_lane x n h d r.0 e i j joined both.0 both.1 t r.2))
 
-      others : (e : ℕ) → Among e (devices x) → (e ≡ d → ⊥) → Skips (all_nets x) k (l_link x h d) (device_parts x e)
+      others : (e : ℕ) → Among e (devices x.desc) → (e ≡ d → ⊥) → Skips (all_nets x) k (l_link x.desc h d) (device_parts x.desc e)
       others e m other =
-          skips_join (all_nets x) k (l_link x h d) (entries_if (is_joined x e) (device_join_entry x e ∷ [])) (entries_if (has_fifo x e) (device_fifo_entry x e ∷ []))
-          (skips_if (all_nets x) k (l_link x h d) (is_joined x e) (device_join_entry x e ∷ []) (λ t. join_skips (all_nets x) k (l_link x h d) (codes "u_m_" ++ label x e) x.clock (join_lanes x e) (joined_link x e) (not_theirs e other t)))
-          (skips_if (all_nets x) k (l_link x h d) (has_fifo x e) (device_fifo_entry x e ∷ []) (λ t. fifo_skips (all_nets x) k (l_link x h d) (codes "u_df_" ++ label x e) x.clock (node x e).clock (m_link x e) (d_link x e) (clash (l_link x h d).request (m_link x e).request refl)))
+          skips_join (all_nets x) k (l_link x.desc h d) (entries_if (is_joined x.desc e) (device_join_entry x.desc e ∷ [])) (entries_if (has_fifo x.desc e) (device_fifo_entry x.desc e ∷ []))
+          (skips_if (all_nets x) k (l_link x.desc h d) (is_joined x.desc e) (device_join_entry x.desc e ∷ []) (λ t. join_skips (all_nets x) k (l_link x.desc h d) (codes "u_m_" ++ label x.desc e) x.desc.clock (join_lanes x.desc e) (joined_link x.desc e) (not_theirs e other t)))
+          (skips_if (all_nets x) k (l_link x.desc h d) (has_fifo x.desc e) (device_fifo_entry x.desc e ∷ []) (λ t. fifo_skips (all_nets x) k (l_link x.desc h d) (codes "u_df_" ++ label x.desc e) x.desc.clock (node x.desc e).clock (m_link x.desc e) (d_link x.desc e) (clash (l_link x.desc h d).request (m_link x.desc e).request refl)))
 
-      here : (rest : List Entry) → through (all_nets x) k (l_link x h d) (device_parts x d ++ rest) ≡ Some (joined_link x d)
-      here rest = rw joined (join_goes (all_nets x) k (l_link x h d) (codes "u_m_" ++ label x d) x.clock (join_lanes x d) (joined_link x d)
-          (link_of_number (λ g. l_link x g d) (feeders x d) h (feeder_has x h d i j)) (join_declared x d joined) (device_declared x d (c.reaches h d i j)) (entries_if (has_fifo x d) (device_fifo_entry x d ∷ []) ++ rest))
+      here : (rest : List Entry) → through (all_nets x) k (l_link x.desc h d) (device_parts x.desc d ++ rest) ≡ Some (joined_link x.desc d)
+      here rest = rw joined (join_goes (all_nets x) k (l_link x.desc h d) (codes "u_m_" ++ label x.desc d) x.desc.clock (join_lanes x.desc d) (joined_link x.desc d)
+          (link_of_number (λ g. l_link x.desc g d) (feeders x.desc d) h (feeder_has x.desc h d i j)) (join_declared x d joined) (device_declared x d (c.reaches h d i j)) (entries_if (has_fifo x.desc d) (device_fifo_entry x.desc d ∷ []) ++ rest))
 
 -- over the device's FIFO
-pub over_device_fifo : (x : Crossbar) → NamesDiffer x → (d : ℕ) (request : Bits) (held : List (List ℕ)) → Among d (devices x) → has_fifo x d ≡ true
-    → inside (crossbar_module x) request held (m_link x d) ≡ to (d_link x d)
+pub over_device_fifo : (x : Crossbar) → NamesDiffer x → (d : ℕ) (request : Bits) (held : List (List ℕ)) → Among d (devices x.desc) → has_fifo x.desc d ≡ true
+    → inside (crossbar_module x) request held (m_link x.desc d) ≡ to (d_link x.desc d)
 over_device_fifo x n d request held i fifo =
-    inside_goes x request held (m_link x d) (Some (d_link x d)) (m_no_output x n d i fifo)
-    (through_device x k (m_link x d) d (Some (d_link x d)) i
-    (λ g m. hosts_skip x k (m_link x d) (λ g. clash (m_link x d).request (h_link x g).request refl) (λ g. clash (m_link x d).request (f_link x g).request refl) g) others here) where
+    inside_goes x request held (m_link x.desc d) (Some (d_link x.desc d)) (m_no_output x n d i fifo)
+    (through_device x k (m_link x.desc d) d (Some (d_link x.desc d)) i
+    (λ g m. hosts_skip x k (m_link x.desc d) (λ g. clash (m_link x.desc d).request (h_link x.desc g).request refl) (λ g. clash (m_link x.desc d).request (f_link x.desc g).request refl) g) others here) where
       k : Known
       k = known x request held
 
-      no_lane : (e : ℕ) → Among (m_link x d).request (requests (join_lanes x e)) → ⊥
-      no_lane e a = let r = request_of_number (λ g. l_link x g e) (feeders x e) (m_link x d).request a in clash (m_link x d).request (l_link x r.0 e).request refl r.2
+      no_lane : (e : ℕ) → Among (m_link x.desc d).request (requests (join_lanes x.desc e)) → ⊥
+      no_lane e a = let r = request_of_number (λ g. l_link x.desc g e) (feeders x.desc e) (m_link x.desc d).request a in clash (m_link x.desc d).request (l_link x.desc r.0 e).request refl r.2
 
-      joins_skip : (e : ℕ) → Skips (all_nets x) k (m_link x d) (entries_if (is_joined x e) (device_join_entry x e ∷ []))
-      joins_skip e = skips_if (all_nets x) k (m_link x d) (is_joined x e) (device_join_entry x e ∷ []) (λ t. join_skips (all_nets x) k (m_link x d) (codes "u_m_" ++ label x e) x.clock (join_lanes x e) (joined_link x e) (no_lane e))
+      joins_skip : (e : ℕ) → Skips (all_nets x) k (m_link x.desc d) (entries_if (is_joined x.desc e) (device_join_entry x.desc e ∷ []))
+      joins_skip e = skips_if (all_nets x) k (m_link x.desc d) (is_joined x.desc e) (device_join_entry x.desc e ∷ []) (λ t. join_skips (all_nets x) k (m_link x.desc d) (codes "u_m_" ++ label x.desc e) x.desc.clock (join_lanes x.desc e) (joined_link x.desc e) (no_lane e))
 
-      other_device : (e : ℕ) → Among e (devices x) → (e ≡ d → ⊥) → (m_link x d).request ≡ (m_link x e).request → ⊥
-      other_device e m other same = other (same_device x n e d m i (sym (append_cancel_left (codes "m_") (label x d ++ codes "_req") (label x e ++ codes "_req") same)))
+      other_device : (e : ℕ) → Among e (devices x.desc) → (e ≡ d → ⊥) → (m_link x.desc d).request ≡ (m_link x.desc e).request → ⊥
+      other_device e m other same = other (same_device x n e d m i (sym (append_cancel_left (codes "m_") (label x.desc d ++ codes "_req") (label x.desc e ++ codes "_req") same)))
 
-      others : (e : ℕ) → Among e (devices x) → (e ≡ d → ⊥) → Skips (all_nets x) k (m_link x d) (device_parts x e)
+      others : (e : ℕ) → Among e (devices x.desc) → (e ≡ d → ⊥) → Skips (all_nets x) k (m_link x.desc d) (device_parts x.desc e)
       others e m other =
-          skips_join (all_nets x) k (m_link x d) (entries_if (is_joined x e) (device_join_entry x e ∷ [])) (entries_if (has_fifo x e) (device_fifo_entry x e ∷ []))
+          skips_join (all_nets x) k (m_link x.desc d) (entries_if (is_joined x.desc e) (device_join_entry x.desc e ∷ [])) (entries_if (has_fifo x.desc e) (device_fifo_entry x.desc e ∷ []))
           (joins_skip e)
-          (skips_if (all_nets x) k (m_link x d) (has_fifo x e) (device_fifo_entry x e ∷ []) (λ t. fifo_skips (all_nets x) k (m_link x d) (codes "u_df_" ++ label x e) x.clock (node x e).clock (m_link x e) (d_link x e) (other_device e m other)))
+          (skips_if (all_nets x) k (m_link x.desc d) (has_fifo x.desc e) (device_fifo_entry x.desc e ∷ []) (λ t. fifo_skips (all_nets x) k (m_link x.desc d) (codes "u_df_" ++ label x.desc e) x.desc.clock (node x.desc e).clock (m_link x.desc e) (d_link x.desc e) (other_device e m other)))
 
-      here : (rest : List Entry) → through (all_nets x) k (m_link x d) (device_parts x d ++ rest) ≡ Some (d_link x d)
+      here : (rest : List Entry) → through (all_nets x) k (m_link x.desc d) (device_parts x.desc d ++ rest) ≡ Some (d_link x.desc d)
       here rest =
-          ap (through (all_nets x) k (m_link x d)) (append_assoc (entries_if (is_joined x d) (device_join_entry x d ∷ [])) (entries_if (has_fifo x d) (device_fifo_entry x d ∷ [])) rest)
-          ∙ joins_skip d (entries_if (has_fifo x d) (device_fifo_entry x d ∷ []) ++ rest)
-          ∙ rw fifo (fifo_goes (all_nets x) k (codes "u_df_" ++ label x d) x.clock (node x d).clock (m_link x d) (d_link x d) (m_declared x d i fifo) (d_declared x d i) rest)
+          ap (through (all_nets x) k (m_link x.desc d)) (append_assoc (entries_if (is_joined x.desc d) (device_join_entry x.desc d ∷ [])) (entries_if (has_fifo x.desc d) (device_fifo_entry x.desc d ∷ [])) rest)
+          ∙ joins_skip d (entries_if (has_fifo x.desc d) (device_fifo_entry x.desc d ∷ []) ++ rest)
+          ∙ rw fifo (fifo_goes (all_nets x) k (codes "u_df_" ++ label x.desc d) x.desc.clock (node x.desc d).clock (m_link x.desc d) (d_link x.desc d) (m_declared x d i fifo) (d_declared x d i) rest)
 
 -- out of the crossbar
-pub at_device : (x : Crossbar) (d : ℕ) (request : Bits) (held : List (List ℕ)) → Among d (devices x) → inside (crossbar_module x) request held (d_link x d) ≡ leaves
-at_device x d request held i = inside_leaves x request held (d_link x d) (d_is_output x d i)
+pub at_device : (x : Crossbar) (d : ℕ) (request : Bits) (held : List (List ℕ)) → Among d (devices x.desc) → inside (crossbar_module x) request held (d_link x.desc d) ≡ leaves
+at_device x d request held i = inside_leaves x request held (d_link x.desc d) (d_is_output x d i)

@@ -4,7 +4,8 @@ use Rattle.std.specs.Prelude.{filter}
 use Rattle.std.proofs.lemmas.Bool.Decides.{nat_tests}
 use Rattle.std.proofs.lemmas.Bool.{eqb-true}
 use Rattle.cg_svspec.specs.Names.{Among}
-use Rattle.cg_busspec.specs.Crossbar.{is_in, Node, Crossbar, numbers_of, hosts, devices, reach}
+use Rattle.cg_desc.specs.declared.crossbar.NodeDesc.{NodeDesc}
+use Rattle.cg_busspec.specs.Crossbar.{is_in, Crossbar, numbers_of, hosts, devices, reach}
 use Rattle.cg_busspec.proofs.Good.{Once, IsCrossbar}
 use Rattle.cg_busspec.proofs.Places.{in_by_test}
 
@@ -91,7 +92,7 @@ total_pairs f to hs ds u once all =
     ∙ total_same (λ d. total (λ h. count_if (is_in (to h) d) (f h d)) hs) (λ d. total (λ h. f h d) (filter (λ h. is_in (to h) d) hs)) ds (λ d m. sym (total_filter (λ h. is_in (to h) d) (λ h. f h d) hs))
 
 -- nodes have their numbers once
-above_start : (b : Bool) (i j : ℕ) (ns : List Node) → Among j (numbers_of b i ns) → i ≤ j
+above_start : (b : Bool) (i j : ℕ) (ns : List NodeDesc) → Among j (numbers_of b i ns) → i ≤ j
 above_start b i j [] h = absurd h
 above_start b i j (n ∷ ns) h = by (above_start b (suc i) j ns) (cond b n.host (not n.host)) h where
   by : (Among j (numbers_of b (suc i) ns) → suc i ≤ j) → (t : Bool) → Among j (cond t (i ∷ numbers_of b (suc i) ns) (numbers_of b (suc i) ns)) → i ≤ j
@@ -99,7 +100,7 @@ above_start b i j (n ∷ ns) h = by (above_start b (suc i) j ns) (cond b n.host 
   by later true (inr m) = let low = later m in omega (arith, low)
   by later false m = let low = later m in omega (arith, low)
 
-pub numbers_once : (b : Bool) (i : ℕ) (ns : List Node) → Once (numbers_of b i ns)
+pub numbers_once : (b : Bool) (i : ℕ) (ns : List NodeDesc) → Once (numbers_of b i ns)
 numbers_once b i [] = tt
 numbers_once b i (n ∷ ns) = by (numbers_once b (suc i) ns) (cond b n.host (not n.host)) where
   below : Among i (numbers_of b (suc i) ns) → ⊥
@@ -162,25 +163,25 @@ upto_long (suc n) = ap suc (upto_long n)
 pub at_most_below : (n : ℕ) (js : List ℕ) → Once js → ((j : ℕ) → Among j js → j < n) → length js ≤ n
 at_most_below n js o below = omega (arith, no_longer js (upto n) o (upto_once n) (λ j a. upto_has n j (below j a)), upto_long n)
 
-numbers_few : (b : Bool) (i : ℕ) (ns : List Node) → length (numbers_of b i ns) ≤ length ns
+numbers_few : (b : Bool) (i : ℕ) (ns : List NodeDesc) → length (numbers_of b i ns) ≤ length ns
 numbers_few b i [] = omega arith
 numbers_few b i (n ∷ ns) = by (numbers_few b (suc i) ns) (cond b n.host (not n.host)) where
   by : length (numbers_of b (suc i) ns) ≤ length ns → (t : Bool) → length (cond t (i ∷ numbers_of b (suc i) ns) (numbers_of b (suc i) ns)) ≤ suc (length ns)
   by h true = omega (arith, h)
   by h false = omega (arith, h)
 
-pub devices_once : (x : Crossbar) → Once (devices x)
+pub devices_once : (x : Crossbar) → Once (devices x.desc)
 unfolding devices
-devices_once x = numbers_once false 0 x.nodes
+devices_once x = numbers_once false 0 x.desc.nodes
 
-pub devices_few : (x : Crossbar) → length (devices x) ≤ length x.nodes
+pub devices_few : (x : Crossbar) → length (devices x.desc) ≤ length x.desc.nodes
 unfolding devices
-devices_few x = numbers_few false 0 x.nodes
+devices_few x = numbers_few false 0 x.desc.nodes
 
-pub hosts_few : (x : Crossbar) → length (hosts x) ≤ length x.nodes
+pub hosts_few : (x : Crossbar) → length (hosts x.desc) ≤ length x.desc.nodes
 unfolding hosts
-hosts_few x = numbers_few true 0 x.nodes
+hosts_few x = numbers_few true 0 x.desc.nodes
 
-pub short : (x : Crossbar) → IsCrossbar x → (h : ℕ) → Among h (hosts x) → length (reach x h) ≤ 64
+pub short : (x : Crossbar) → IsCrossbar x → (h : ℕ) → Among h (hosts x.desc) → length (reach x.desc h) ≤ 64
 short x c h i =
-    omega (arith, no_longer (reach x h) (devices x) (c.once h i) (devices_once x) (λ d m. c.reaches h d i m), devices_few x, c.few)
+    omega (arith, no_longer (reach x.desc h) (devices x.desc) (c.once h i) (devices_once x) (λ d m. c.reaches h d i m), devices_few x, c.few)

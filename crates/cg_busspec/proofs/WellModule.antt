@@ -45,24 +45,24 @@ good_flat ins b f (i ∷ is) g = good_join ins b (f i) (flat_map f is) (g i (inl
 good_links : (ins : List (List ℕ)) (b : Above) (l : Link) → LinkNamed l → Good ins b (link_wires l)
 good_links ins b l n e up = sounds_wire request_width n.request (sounds_wire response_width n.response sounds_none)
 
-good_wires : (x : Crossbar) → IsCrossbar x → (ins : List (List ℕ)) (b : Above) → Good ins b (crossbar_wires x)
+good_wires : (x : Crossbar) → IsCrossbar x → (ins : List (List ℕ)) (b : Above) → Good ins b (crossbar_wires x.desc)
 good_wires x c ins b =
-    good_join ins b (flat_map (host_wires x) (hosts x)) (flat_map (host_lanes x) (hosts x) ++ flat_map (device_wires x) (devices x))
-    (good_flat ins b (host_wires x) (hosts x) (λ h i. good_if ins b (has_fifo x h) (link_wires (f_link x h)) (λ t. good_links ins b (f_link x h) (f_named x c h))))
-    (good_join ins b (flat_map (host_lanes x) (hosts x)) (flat_map (device_wires x) (devices x))
-    (good_flat ins b (host_lanes x) (hosts x) (λ h i. good_flat ins b (lane_wires x h) (reach x h) (λ d j. good_if ins b (is_joined x d) (link_wires (l_link x h d)) (λ t. good_links ins b (l_link x h d) (l_named x c h d)))))
-    (good_flat ins b (device_wires x) (devices x) (λ d i. good_if ins b (has_fifo x d) (link_wires (m_link x d)) (λ t. good_links ins b (m_link x d) (m_named x c d)))))
+    good_join ins b (flat_map (host_wires x.desc) (hosts x.desc)) (flat_map (host_lanes x.desc) (hosts x.desc) ++ flat_map (device_wires x.desc) (devices x.desc))
+    (good_flat ins b (host_wires x.desc) (hosts x.desc) (λ h i. good_if ins b (has_fifo x.desc h) (link_wires (f_link x.desc h)) (λ t. good_links ins b (f_link x.desc h) (f_named x c h))))
+    (good_join ins b (flat_map (host_lanes x.desc) (hosts x.desc)) (flat_map (device_wires x.desc) (devices x.desc))
+    (good_flat ins b (host_lanes x.desc) (hosts x.desc) (λ h i. good_flat ins b (lane_wires x.desc h) (reach x.desc h) (λ d j. good_if ins b (is_joined x.desc d) (link_wires (l_link x.desc h d)) (λ t. good_links ins b (l_link x.desc h d) (l_named x c h d)))))
+    (good_flat ins b (device_wires x.desc) (devices x.desc) (λ d i. good_if ins b (has_fifo x.desc d) (link_wires (m_link x.desc d)) (λ t. good_links ins b (m_link x.desc d) (m_named x c d)))))
 
 -- ---- what is known
 
 abbrev ins_of : Crossbar → List (List ℕ)
-ins_of x = inputs_of (crossbar_ports x)
+ins_of x = inputs_of (crossbar_ports x.desc)
 
 abbrev above0 : Crossbar → Above
-above0 x = record { nets = port_nets (crossbar_ports x); known = ins_of x ++ instance_driven (ins_of x) (crossbar_entries x) }
+above0 x = record { nets = port_nets (crossbar_ports x.desc); known = ins_of x ++ instance_driven (ins_of x) (crossbar_entries x) }
 
 abbrev above1 : Crossbar → Above
-above1 x = after (above0 x) (crossbar_wires x)
+above1 x = after (above0 x) (crossbar_wires x.desc)
 
 abbrev above2 : Crossbar → Above
 above2 x = after (above1 x) (crossbar_selects x)
@@ -97,20 +97,20 @@ free_selects x n (h ∷ hs) = free_selects x n hs
 all_free : (x : Crossbar) (n : List ℕ) → Free n (crossbar_entries x)
 unfolding crossbar_entries fifo_instance split_instance join_instance
 all_free x n =
-    free_join n (crossbar_wires x) (crossbar_selects x ++ crossbar_parts x)
-    (free_join n (flat_map (host_wires x) (hosts x)) (flat_map (host_lanes x) (hosts x) ++ flat_map (device_wires x) (devices x))
-    (free_flat n (host_wires x) (hosts x) (λ h. free_if n (has_fifo x h) (link_wires (f_link x h)) refl))
-    (free_join n (flat_map (host_lanes x) (hosts x)) (flat_map (device_wires x) (devices x))
-    (free_flat n (host_lanes x) (hosts x) (λ h. free_flat n (lane_wires x h) (reach x h) (λ d. free_if n (is_joined x d) (link_wires (l_link x h d)) refl)))
-    (free_flat n (device_wires x) (devices x) (λ d. free_if n (has_fifo x d) (link_wires (m_link x d)) refl))))
-    (free_join n (crossbar_selects x) (crossbar_parts x) (free_selects x n (hosts x))
-    (free_join n (flat_map (host_parts x) (hosts x)) (flat_map (device_parts x) (devices x))
-    (free_flat n (host_parts x) (hosts x) (λ h. free_join n (entries_if (has_fifo x h) (host_fifo_entry x h ∷ [])) (host_split_entry x h ∷ []) (free_if n (has_fifo x h) (host_fifo_entry x h ∷ []) refl) refl))
-    (free_flat n (device_parts x) (devices x) (λ d. free_join n (entries_if (is_joined x d) (device_join_entry x d ∷ [])) (entries_if (has_fifo x d) (device_fifo_entry x d ∷ []))
-    (free_if n (is_joined x d) (device_join_entry x d ∷ []) refl) (free_if n (has_fifo x d) (device_fifo_entry x d ∷ []) refl)))))
+    free_join n (crossbar_wires x.desc) (crossbar_selects x ++ crossbar_parts x.desc)
+    (free_join n (flat_map (host_wires x.desc) (hosts x.desc)) (flat_map (host_lanes x.desc) (hosts x.desc) ++ flat_map (device_wires x.desc) (devices x.desc))
+    (free_flat n (host_wires x.desc) (hosts x.desc) (λ h. free_if n (has_fifo x.desc h) (link_wires (f_link x.desc h)) refl))
+    (free_join n (flat_map (host_lanes x.desc) (hosts x.desc)) (flat_map (device_wires x.desc) (devices x.desc))
+    (free_flat n (host_lanes x.desc) (hosts x.desc) (λ h. free_flat n (lane_wires x.desc h) (reach x.desc h) (λ d. free_if n (is_joined x.desc d) (link_wires (l_link x.desc h d)) refl)))
+    (free_flat n (device_wires x.desc) (devices x.desc) (λ d. free_if n (has_fifo x.desc d) (link_wires (m_link x.desc d)) refl))))
+    (free_join n (crossbar_selects x) (crossbar_parts x.desc) (free_selects x n (hosts x.desc))
+    (free_join n (flat_map (host_parts x.desc) (hosts x.desc)) (flat_map (device_parts x.desc) (devices x.desc))
+    (free_flat n (host_parts x.desc) (hosts x.desc) (λ h. free_join n (entries_if (has_fifo x.desc h) (host_fifo_entry x.desc h ∷ [])) (host_split_entry x.desc h ∷ []) (free_if n (has_fifo x.desc h) (host_fifo_entry x.desc h ∷ []) refl) refl))
+    (free_flat n (device_parts x.desc) (devices x.desc) (λ d. free_join n (entries_if (is_joined x.desc d) (device_join_entry x.desc d ∷ [])) (entries_if (has_fifo x.desc d) (device_fifo_entry x.desc d ∷ []))
+    (free_if n (is_joined x.desc d) (device_join_entry x.desc d ∷ []) refl) (free_if n (has_fifo x.desc d) (device_fifo_entry x.desc d ∷ []) refl)))))
 
 -- instances drive what is a plain wire or an output
-driven_known : (x : Crossbar) → IsCrossbar x → (n : List ℕ) → 0 < count n (plain_of (crossbar_entries x)) + count n (outputs_of (crossbar_ports x)) → Among n (above0 x).known
+driven_known : (x : Crossbar) → IsCrossbar x → (n : List ℕ) → 0 < count n (plain_of (crossbar_entries x)) + count n (outputs_of (crossbar_ports x.desc)) → Among n (above0 x).known
 unfolding crossbar_module
 driven_known x c n some =
     among_back n (ins_of x) (instance_driven (ins_of x) (crossbar_entries x))
@@ -135,76 +135,76 @@ given_wire f w n (inst m ps k cs ∷ es) a h = given_wire f w n es a.1 h
 -- ---- nets behind the wires
 
 up01 : (x : Crossbar) → Up (above0 x) (above1 x)
-up01 x = up_after (above0 x) (crossbar_wires x)
+up01 x = up_after (above0 x) (crossbar_wires x.desc)
 
-input_has : (x : Crossbar) (p : Port) → Among p (crossbar_ports x) → p.input ≡ true → IsName p.name → Has (above1 x) p.name p.width
+input_has : (x : Crossbar) (p : Port) → Among p (crossbar_ports x.desc) → p.input ≡ true → IsName p.name → Has (above1 x) p.name p.width
 input_has x p h e n = has_up (up01 x) (record {
-  declared = record { name = n; net = port_in_nets p (crossbar_ports x) h };
-  known = among_front p.name (ins_of x) (instance_driven (ins_of x) (crossbar_entries x)) (input_among p (crossbar_ports x) h e);
+  declared = record { name = n; net = port_in_nets p (crossbar_ports x.desc) h };
+  known = among_front p.name (ins_of x) (instance_driven (ins_of x) (crossbar_entries x)) (input_among p (crossbar_ports x.desc) h e);
 })
 
-output_has : (x : Crossbar) → IsCrossbar x → (p : Port) → Among p (crossbar_ports x) → p.input ≡ false → IsName p.name → Has (above1 x) p.name p.width
+output_has : (x : Crossbar) → IsCrossbar x → (p : Port) → Among p (crossbar_ports x.desc) → p.input ≡ false → IsName p.name → Has (above1 x) p.name p.width
 output_has x c p h e n = has_up (up01 x) (record {
-  declared = record { name = n; net = port_in_nets p (crossbar_ports x) h };
-  known = driven_known x c p.name (omega (arith, among_counts p.name (outputs_of (crossbar_ports x)) (output_among p (crossbar_ports x) h e)));
+  declared = record { name = n; net = port_in_nets p (crossbar_ports x.desc) h };
+  known = driven_known x c p.name (omega (arith, among_counts p.name (outputs_of (crossbar_ports x.desc)) (output_among p (crossbar_ports x.desc) h e)));
 })
 
-wire_has : (x : Crossbar) → IsCrossbar x → (w : ℕ) (n : List ℕ) → WireIn w n (crossbar_wires x) → Has (above1 x) n w
+wire_has : (x : Crossbar) → IsCrossbar x → (w : ℕ) (n : List ℕ) → WireIn w n (crossbar_wires x.desc) → Has (above1 x) n w
 unfolding crossbar_entries
 wire_has x c w n h = record {
-  declared = given_wire (above1 x) w n (crossbar_wires x) (all_given (above0 x) (crossbar_wires x) (good_wires x c (ins_of x) (above0 x) (above0 x) (same_up (above0 x))).printable) h;
-  known = (up01 x).known n (driven_known x c n (omega (arith, among_counts n (plain_of (crossbar_entries x)) (wire_plain w n (crossbar_entries x) (wire_front w n (crossbar_wires x) (crossbar_selects x ++ crossbar_parts x) h)))));
+  declared = given_wire (above1 x) w n (crossbar_wires x.desc) (all_given (above0 x) (crossbar_wires x.desc) (good_wires x c (ins_of x) (above0 x) (above0 x) (same_up (above0 x))).printable) h;
+  known = (up01 x).known n (driven_known x c n (omega (arith, among_counts n (plain_of (crossbar_entries x)) (wire_plain w n (crossbar_entries x) (wire_front w n (crossbar_wires x.desc) (crossbar_selects x ++ crossbar_parts x.desc) h)))));
 }
 
 -- the links
-h_has : (x : Crossbar) → IsCrossbar x → (h : ℕ) → Among h (hosts x) → LinkHas (above1 x) (h_link x h)
+h_has : (x : Crossbar) → IsCrossbar x → (h : ℕ) → Among h (hosts x.desc) → LinkHas (above1 x) (h_link x.desc h)
 h_has x c h i = record {
-  request = input_has x (input_port 70 (h_link x h).request) (host_port_in x h _ i (inl refl)) refl (h_named x c h).request;
-  response = output_has x c (output_port 33 (h_link x h).response) (host_port_in x h _ i (inr (inl refl))) refl (h_named x c h).response;
+  request = input_has x (input_port 70 (h_link x.desc h).request) (host_port_in x h _ i (inl refl)) refl (h_named x c h).request;
+  response = output_has x c (output_port 33 (h_link x.desc h).response) (host_port_in x h _ i (inr (inl refl))) refl (h_named x c h).response;
 }
 
-d_has : (x : Crossbar) → IsCrossbar x → (d : ℕ) → Among d (devices x) → LinkHas (above1 x) (d_link x d)
+d_has : (x : Crossbar) → IsCrossbar x → (d : ℕ) → Among d (devices x.desc) → LinkHas (above1 x) (d_link x.desc d)
 d_has x c d i = record {
-  request = output_has x c (output_port 70 (d_link x d).request) (device_port_in x d _ i (inl refl)) refl (d_named x c d).request;
-  response = input_has x (input_port 33 (d_link x d).response) (device_port_in x d _ i (inr (inl refl))) refl (d_named x c d).response;
+  request = output_has x c (output_port 70 (d_link x.desc d).request) (device_port_in x d _ i (inl refl)) refl (d_named x c d).request;
+  response = input_has x (input_port 33 (d_link x.desc d).response) (device_port_in x d _ i (inr (inl refl))) refl (d_named x c d).response;
 }
 
 if_wire : (b : Bool) (w : ℕ) (n : List ℕ) (es : List Entry) → b ≡ true → WireIn w n es → WireIn w n (entries_if b es)
 if_wire b w n es e h = subst (λ z. WireIn w n (entries_if z es)) (sym e) h
 
-f_has : (x : Crossbar) → IsCrossbar x → (h : ℕ) → Among h (hosts x) → has_fifo x h ≡ true → LinkHas (above1 x) (f_link x h)
+f_has : (x : Crossbar) → IsCrossbar x → (h : ℕ) → Among h (hosts x.desc) → has_fifo x.desc h ≡ true → LinkHas (above1 x) (f_link x.desc h)
 f_has x c h i e = record {
-  request = wire_has x c 70 (f_link x h).request (host_wire_in x h 70 _ i (if_wire (has_fifo x h) 70 _ (link_wires (f_link x h)) e (inl (refl, refl))));
-  response = wire_has x c 33 (f_link x h).response (host_wire_in x h 33 _ i (if_wire (has_fifo x h) 33 _ (link_wires (f_link x h)) e (inr (inl (refl, refl)))));
+  request = wire_has x c 70 (f_link x.desc h).request (host_wire_in x h 70 _ i (if_wire (has_fifo x.desc h) 70 _ (link_wires (f_link x.desc h)) e (inl (refl, refl))));
+  response = wire_has x c 33 (f_link x.desc h).response (host_wire_in x h 33 _ i (if_wire (has_fifo x.desc h) 33 _ (link_wires (f_link x.desc h)) e (inr (inl (refl, refl)))));
 }
 
-m_has : (x : Crossbar) → IsCrossbar x → (d : ℕ) → Among d (devices x) → has_fifo x d ≡ true → LinkHas (above1 x) (m_link x d)
+m_has : (x : Crossbar) → IsCrossbar x → (d : ℕ) → Among d (devices x.desc) → has_fifo x.desc d ≡ true → LinkHas (above1 x) (m_link x.desc d)
 m_has x c d i e = record {
-  request = wire_has x c 70 (m_link x d).request (device_wire_in x d 70 _ i (if_wire (has_fifo x d) 70 _ (link_wires (m_link x d)) e (inl (refl, refl))));
-  response = wire_has x c 33 (m_link x d).response (device_wire_in x d 33 _ i (if_wire (has_fifo x d) 33 _ (link_wires (m_link x d)) e (inr (inl (refl, refl)))));
+  request = wire_has x c 70 (m_link x.desc d).request (device_wire_in x d 70 _ i (if_wire (has_fifo x.desc d) 70 _ (link_wires (m_link x.desc d)) e (inl (refl, refl))));
+  response = wire_has x c 33 (m_link x.desc d).response (device_wire_in x d 33 _ i (if_wire (has_fifo x.desc d) 33 _ (link_wires (m_link x.desc d)) e (inr (inl (refl, refl)))));
 }
 
-l_has : (x : Crossbar) → IsCrossbar x → (h d : ℕ) → Among h (hosts x) → Among d (reach x h) → is_joined x d ≡ true → LinkHas (above1 x) (l_link x h d)
+l_has : (x : Crossbar) → IsCrossbar x → (h d : ℕ) → Among h (hosts x.desc) → Among d (reach x.desc h) → is_joined x.desc d ≡ true → LinkHas (above1 x) (l_link x.desc h d)
 l_has x c h d i j e = record {
-  request = wire_has x c 70 (l_link x h d).request (lane_wire_in x h d 70 _ i j (if_wire (is_joined x d) 70 _ (link_wires (l_link x h d)) e (inl (refl, refl))));
-  response = wire_has x c 33 (l_link x h d).response (lane_wire_in x h d 33 _ i j (if_wire (is_joined x d) 33 _ (link_wires (l_link x h d)) e (inr (inl (refl, refl)))));
+  request = wire_has x c 70 (l_link x.desc h d).request (lane_wire_in x h d 70 _ i j (if_wire (is_joined x.desc d) 70 _ (link_wires (l_link x.desc h d)) e (inl (refl, refl))));
+  response = wire_has x c 33 (l_link x.desc h d).response (lane_wire_in x h d 33 _ i j (if_wire (is_joined x.desc d) 33 _ (link_wires (l_link x.desc h d)) e (inr (inl (refl, refl)))));
 }
 
 chosen_has : (e : Above) (b : Bool) (l k : Link) → (b ≡ true → LinkHas e l) → (b ≡ false → LinkHas e k) → LinkHas e (cond b l k)
 chosen_has e true l k a b = a refl
 chosen_has e false l k a b = b refl
 
-socket_has : (x : Crossbar) → IsCrossbar x → (h : ℕ) → Among h (hosts x) → LinkHas (above1 x) (socket_link x h)
+socket_has : (x : Crossbar) → IsCrossbar x → (h : ℕ) → Among h (hosts x.desc) → LinkHas (above1 x) (socket_link x.desc h)
 unfolding socket_link
-socket_has x c h i = chosen_has (above1 x) (has_fifo x h) (f_link x h) (h_link x h) (f_has x c h i) (λ e. h_has x c h i)
+socket_has x c h i = chosen_has (above1 x) (has_fifo x.desc h) (f_link x.desc h) (h_link x.desc h) (f_has x c h i) (λ e. h_has x c h i)
 
-device_has : (x : Crossbar) → IsCrossbar x → (d : ℕ) → Among d (devices x) → LinkHas (above1 x) (joined_link x d)
+device_has : (x : Crossbar) → IsCrossbar x → (d : ℕ) → Among d (devices x.desc) → LinkHas (above1 x) (joined_link x.desc d)
 unfolding joined_link
-device_has x c d i = chosen_has (above1 x) (has_fifo x d) (m_link x d) (d_link x d) (m_has x c d i) (λ e. d_has x c d i)
+device_has x c d i = chosen_has (above1 x) (has_fifo x.desc d) (m_link x.desc d) (d_link x.desc d) (m_has x c d i) (λ e. d_has x c d i)
 
-lane_has : (x : Crossbar) → IsCrossbar x → (h d : ℕ) → Among h (hosts x) → Among d (reach x h) → LinkHas (above1 x) (lane x h d)
+lane_has : (x : Crossbar) → IsCrossbar x → (h d : ℕ) → Among h (hosts x.desc) → Among d (reach x.desc h) → LinkHas (above1 x) (lane x.desc h d)
 unfolding lane
-lane_has x c h d i j = chosen_has (above1 x) (is_joined x d) (l_link x h d) (joined_link x d) (l_has x c h d i j) (λ e. device_has x c d (c.reaches h d i j))
+lane_has x c h d i j = chosen_has (above1 x) (is_joined x.desc d) (l_link x.desc h d) (joined_link x.desc d) (l_has x c h d i j) (λ e. device_has x c d (c.reaches h d i j))
 
 link_up : {e f : Above} {l : Link} → Up e f → LinkHas e l → LinkHas f l
 link_up up h = record { request = has_up up h.request; response = has_up up h.response }
@@ -214,36 +214,36 @@ link_up up h = record { request = has_up up h.request; response = has_up up h.re
 select_width : IsWidth 8
 select_width = (omega arith, omega arith)
 
-good_selects : (x : Crossbar) → IsCrossbar x → (ins : List (List ℕ)) (hs : List ℕ) → ((h : ℕ) → Among h hs → Among h (hosts x)) → Good ins (above1 x) (map (host_select x) hs)
+good_selects : (x : Crossbar) → IsCrossbar x → (ins : List (List ℕ)) (hs : List ℕ) → ((h : ℕ) → Among h hs → Among h (hosts x.desc)) → Good ins (above1 x) (map (host_select x) hs)
 good_selects x c ins [] all e up = sounds_none
 good_selects x c ins (h ∷ hs) all e up =
     let few = short x c h (all h (inl refl)) in
-    sounds_drive select_width (sel_named x c h) (deep (length (reach x h)) few)
-    (select_sound x (socket_link x h).request 0 (reach x h) (has_up up (socket_has x c h (all h (inl refl))).request) (omega (arith, few))
+    sounds_drive select_width (sel_named x c h) (deep (length (reach x.desc h)) few)
+    (select_sound x (socket_link x.desc h).request 0 (reach x.desc h) (has_up up (socket_has x c h (all h (inl refl))).request) (omega (arith, few))
     (λ d m. let i = c.reaches h d (all h (inl refl)) m in record { each = c.ranges d i; some = c.some_range d i; few = c.few_ranges d i }))
-    (good_selects x c ins hs (λ g m. all g (inr m)) (with_drive e (sel x h) 8) (up_up up (up_drive e (sel x h) 8))) where
+    (good_selects x c ins hs (λ g m. all g (inr m)) (with_drive e (sel x.desc h) 8) (up_up up (up_drive e (sel x.desc h) 8))) where
       deep : (n : ℕ) → n ≤ 64 → 5 + n ≤ 128
       deep n h = omega arith
 
-given_select : (x : Crossbar) (f : Above) (hs : List ℕ) (h : ℕ) → AllOf (GivenBy f) (map (host_select x) hs) → Among h hs → Has f (sel x h) 8
+given_select : (x : Crossbar) (f : Above) (hs : List ℕ) (h : ℕ) → AllOf (GivenBy f) (map (host_select x) hs) → Among h hs → Has f (sel x.desc h) 8
 given_select x f [] h a i = absurd i
-given_select x f (g ∷ gs) h a (inl e) = subst (λ z. Has f (sel x z) 8) (sym e) a.0
+given_select x f (g ∷ gs) h a (inl e) = subst (λ z. Has f (sel x.desc z) 8) (sym e) a.0
 given_select x f (g ∷ gs) h a (inr i) = given_select x f gs h a.1 i
 
 up12 : (x : Crossbar) → Up (above1 x) (above2 x)
 up12 x = up_after (above1 x) (crossbar_selects x)
 
-sel_has : (x : Crossbar) → IsCrossbar x → (h : ℕ) → Among h (hosts x) → Has (above2 x) (sel x h) 8
+sel_has : (x : Crossbar) → IsCrossbar x → (h : ℕ) → Among h (hosts x.desc) → Has (above2 x) (sel x.desc h) 8
 sel_has x c h i =
-    given_select x (above2 x) (hosts x) h (all_given (above1 x) (crossbar_selects x) (good_selects x c (ins_of x) (hosts x) (λ g m. m) (above1 x) (same_up (above1 x))).printable) i
+    given_select x (above2 x) (hosts x.desc) h (all_given (above1 x) (crossbar_selects x) (good_selects x c (ins_of x) (hosts x.desc) (λ g m. m) (above1 x) (same_up (above1 x))).printable) i
 
 -- ---- parts
 
-clock_has : (x : Crossbar) (k : List ℕ) → IsName (clock_net k) → Among k (clocks x) → Has (above1 x) (clock_net k) 1
+clock_has : (x : Crossbar) (k : List ℕ) → IsName (clock_net k) → Among k (clocks x.desc) → Has (above1 x) (clock_net k) 1
 clock_has x k n a = input_has x (clock_port k) (clock_in x k a) refl n
 
-own_clock_has : (x : Crossbar) → IsCrossbar x → Has (above1 x) (clock_net x.clock) 1
-own_clock_has x c = clock_has x x.clock (clock_named x.clock c.clock) (own_clock x)
+own_clock_has : (x : Crossbar) → IsCrossbar x → Has (above1 x) (clock_net x.desc.clock) 1
+own_clock_has x c = clock_has x x.desc.clock (clock_named x.desc.clock c.clock) (own_clock x)
 
 links_have : (e : Above) (f : ℕ → Link) (is : List ℕ) → ((i : ℕ) → Among i is → LinkHas e (f i)) → LinksHave e (map f is)
 links_have e f [] a = tt
@@ -264,56 +264,56 @@ filter_long p (i ∷ is) = by (p i) (filter_long p is) where
   by true h = omega (arith, h)
   by false h = omega (arith, h)
 
-feeders_few : (x : Crossbar) → IsCrossbar x → (d : ℕ) → length (feeders x d) ≤ 64
+feeders_few : (x : Crossbar) → IsCrossbar x → (d : ℕ) → length (feeders x.desc d) ≤ 64
 unfolding feeders
-feeders_few x c d = omega (arith, filter_long (λ h. is_in (reach x h) d) (hosts x), hosts_few x, c.few)
+feeders_few x c d = omega (arith, filter_long (λ h. is_in (reach x.desc h) d) (hosts x.desc), hosts_few x, c.few)
 
-good_host : (x : Crossbar) → IsCrossbar x → (ins : List (List ℕ)) (h : ℕ) → Among h (hosts x) → Good ins (above2 x) (host_parts x h)
+good_host : (x : Crossbar) → IsCrossbar x → (ins : List (List ℕ)) (h : ℕ) → Among h (hosts x.desc) → Good ins (above2 x) (host_parts x.desc h)
 good_host x c ins h i =
-    let lanes : List Link = map (lane x h) (reach x h) in
-    let long : length lanes ≡ length (reach x h) = map_long (lane x h) (reach x h) in
+    let lanes : List Link = map (lane x.desc h) (reach x.desc h) in
+    let long : length lanes ≡ length (reach x.desc h) = map_long (lane x.desc h) (reach x.desc h) in
     let few : length lanes ≤ 64 = omega (arith, long, short x c h i) in
-    let some : 0 < length lanes = omega (arith, long, some_long (reach x h) (c.some_device h i)) in
-    good_join ins (above2 x) (entries_if (has_fifo x h) (host_fifo_entry x h ∷ [])) (host_split_entry x h ∷ [])
-    (good_if ins (above2 x) (has_fifo x h) (host_fifo_entry x h ∷ []) (λ t e up. fifo_sounds (codes "u_hf_" ++ label x h) (node x h).clock x.clock (h_link x h) (f_link x h)
-    (prefix_name (codes "u_hf_") (label x h) refl refl (label_each x c h)) (has_up (up_up (up12 x) up) (clock_has x (node x h).clock (clock_name x c h) (host_clock x h i))) (has_up (up_up (up12 x) up) (own_clock_has x c))
+    let some : 0 < length lanes = omega (arith, long, some_long (reach x.desc h) (c.some_device h i)) in
+    good_join ins (above2 x) (entries_if (has_fifo x.desc h) (host_fifo_entry x.desc h ∷ [])) (host_split_entry x.desc h ∷ [])
+    (good_if ins (above2 x) (has_fifo x.desc h) (host_fifo_entry x.desc h ∷ []) (λ t e up. fifo_sounds (codes "u_hf_" ++ label x.desc h) (node x.desc h).clock x.desc.clock (h_link x.desc h) (f_link x.desc h)
+    (prefix_name (codes "u_hf_") (label x.desc h) refl refl (label_each x c h)) (has_up (up_up (up12 x) up) (clock_has x (node x.desc h).clock (clock_name x c h) (host_clock x h i))) (has_up (up_up (up12 x) up) (own_clock_has x c))
     (link_up (up_up (up12 x) up) (h_has x c h i)) (link_up (up_up (up12 x) up) (f_has x c h i t)) sounds_none))
-    (λ e up. split_sounds (codes "u_s_" ++ label x h) x.clock (sel x h) (socket_link x h) lanes
-    (prefix_name (codes "u_s_") (label x h) refl refl (label_each x c h)) (has_up (up_up (up12 x) up) (own_clock_has x c)) (has_up up (sel_has x c h i))
-    (link_up (up_up (up12 x) up) (socket_has x c h i)) (links_have e (lane x h) (reach x h) (λ d m. link_up (up_up (up12 x) up) (lane_has x c h d i m))) some few sounds_none)
+    (λ e up. split_sounds (codes "u_s_" ++ label x.desc h) x.desc.clock (sel x.desc h) (socket_link x.desc h) lanes
+    (prefix_name (codes "u_s_") (label x.desc h) refl refl (label_each x c h)) (has_up (up_up (up12 x) up) (own_clock_has x c)) (has_up up (sel_has x c h i))
+    (link_up (up_up (up12 x) up) (socket_has x c h i)) (links_have e (lane x.desc h) (reach x.desc h) (λ d m. link_up (up_up (up12 x) up) (lane_has x c h d i m))) some few sounds_none)
 
-joined_some : (x : Crossbar) (d : ℕ) → is_joined x d ≡ true → 0 < length (feeders x d)
+joined_some : (x : Crossbar) (d : ℕ) → is_joined x.desc d ≡ true → 0 < length (feeders x.desc d)
 unfolding is_joined
 joined_some x d t = grind (arith, nat_tests)
 
-good_device : (x : Crossbar) → IsCrossbar x → (ins : List (List ℕ)) (d : ℕ) → Among d (devices x) → Good ins (above2 x) (device_parts x d)
+good_device : (x : Crossbar) → IsCrossbar x → (ins : List (List ℕ)) (d : ℕ) → Among d (devices x.desc) → Good ins (above2 x) (device_parts x.desc d)
 good_device x c ins d i =
-    let long : length (join_lanes x d) ≡ length (feeders x d) = map_long (λ h. l_link x h d) (feeders x d) in
-    let few : length (join_lanes x d) ≤ 64 = omega (arith, long, feeders_few x c d) in
-    good_join ins (above2 x) (entries_if (is_joined x d) (device_join_entry x d ∷ [])) (entries_if (has_fifo x d) (device_fifo_entry x d ∷ []))
-    (good_if ins (above2 x) (is_joined x d) (device_join_entry x d ∷ []) (λ t e up. join_sounds (codes "u_m_" ++ label x d) x.clock (join_lanes x d) (joined_link x d)
-    (prefix_name (codes "u_m_") (label x d) refl refl (label_each x c d)) (has_up (up_up (up12 x) up) (own_clock_has x c))
-    (links_have e (λ h. l_link x h d) (feeders x d) (λ h m. let both = feeder_is x h d m in link_up (up_up (up12 x) up) (l_has x c h d both.0 both.1 t)))
+    let long : length (join_lanes x.desc d) ≡ length (feeders x.desc d) = map_long (λ h. l_link x.desc h d) (feeders x.desc d) in
+    let few : length (join_lanes x.desc d) ≤ 64 = omega (arith, long, feeders_few x c d) in
+    good_join ins (above2 x) (entries_if (is_joined x.desc d) (device_join_entry x.desc d ∷ [])) (entries_if (has_fifo x.desc d) (device_fifo_entry x.desc d ∷ []))
+    (good_if ins (above2 x) (is_joined x.desc d) (device_join_entry x.desc d ∷ []) (λ t e up. join_sounds (codes "u_m_" ++ label x.desc d) x.desc.clock (join_lanes x.desc d) (joined_link x.desc d)
+    (prefix_name (codes "u_m_") (label x.desc d) refl refl (label_each x c d)) (has_up (up_up (up12 x) up) (own_clock_has x c))
+    (links_have e (λ h. l_link x.desc h d) (feeders x.desc d) (λ h m. let both = feeder_is x.desc h d m in link_up (up_up (up12 x) up) (l_has x c h d both.0 both.1 t)))
     (link_up (up_up (up12 x) up) (device_has x c d i)) (omega (arith, long, joined_some x d t)) few sounds_none))
-    (good_if ins (above2 x) (has_fifo x d) (device_fifo_entry x d ∷ []) (λ t e up. fifo_sounds (codes "u_df_" ++ label x d) x.clock (node x d).clock (m_link x d) (d_link x d)
-    (prefix_name (codes "u_df_") (label x d) refl refl (label_each x c d)) (has_up (up_up (up12 x) up) (own_clock_has x c)) (has_up (up_up (up12 x) up) (clock_has x (node x d).clock (clock_name x c d) (device_clock x d i)))
+    (good_if ins (above2 x) (has_fifo x.desc d) (device_fifo_entry x.desc d ∷ []) (λ t e up. fifo_sounds (codes "u_df_" ++ label x.desc d) x.desc.clock (node x.desc d).clock (m_link x.desc d) (d_link x.desc d)
+    (prefix_name (codes "u_df_") (label x.desc d) refl refl (label_each x c d)) (has_up (up_up (up12 x) up) (own_clock_has x c)) (has_up (up_up (up12 x) up) (clock_has x (node x.desc d).clock (clock_name x c d) (device_clock x d i)))
     (link_up (up_up (up12 x) up) (m_has x c d i t)) (link_up (up_up (up12 x) up) (d_has x c d i)) sounds_none))
 
-good_parts : (x : Crossbar) → IsCrossbar x → (ins : List (List ℕ)) → Good ins (above2 x) (crossbar_parts x)
+good_parts : (x : Crossbar) → IsCrossbar x → (ins : List (List ℕ)) → Good ins (above2 x) (crossbar_parts x.desc)
 good_parts x c ins =
-    good_join ins (above2 x) (flat_map (host_parts x) (hosts x)) (flat_map (device_parts x) (devices x))
-    (good_flat ins (above2 x) (host_parts x) (hosts x) (good_host x c ins)) (good_flat ins (above2 x) (device_parts x) (devices x) (good_device x c ins))
+    good_join ins (above2 x) (flat_map (host_parts x.desc) (hosts x.desc)) (flat_map (device_parts x.desc) (devices x.desc))
+    (good_flat ins (above2 x) (host_parts x.desc) (hosts x.desc) (good_host x c ins)) (good_flat ins (above2 x) (device_parts x.desc) (devices x.desc) (good_device x c ins))
 
 -- ---- the whole
 
 entries_sound : (x : Crossbar) → IsCrossbar x → Sounds (ins_of x) (above0 x) (crossbar_entries x)
 unfolding crossbar_entries
 entries_sound x c =
-    sounds_join (above0 x) (crossbar_wires x) (crossbar_selects x ++ crossbar_parts x) (good_wires x c (ins_of x) (above0 x) (above0 x) (same_up (above0 x)))
-    (sounds_join (above1 x) (crossbar_selects x) (crossbar_parts x) (good_selects x c (ins_of x) (hosts x) (λ g m. m) (above1 x) (same_up (above1 x)))
+    sounds_join (above0 x) (crossbar_wires x.desc) (crossbar_selects x ++ crossbar_parts x.desc) (good_wires x c (ins_of x) (above0 x) (above0 x) (same_up (above0 x)))
+    (sounds_join (above1 x) (crossbar_selects x) (crossbar_parts x.desc) (good_selects x c (ins_of x) (hosts x.desc) (λ g m. m) (above1 x) (same_up (above1 x)))
     (good_parts x c (ins_of x) (above2 x) (same_up (above2 x))))
 
-some_port : (x : Crossbar) → IsSomeOf (crossbar_ports x)
+some_port : (x : Crossbar) → IsSomeOf (crossbar_ports x.desc)
 unfolding crossbar_ports clocks
 some_port x = tt
 
@@ -325,7 +325,7 @@ crossbar_well_formed x c d =
     let balanced = crossbar_balanced x c in
     record {
       printable = record {
-        name = prefix_name (codes "xbar_") x.name refl refl c.name;
+        name = prefix_name (codes "xbar_") x.desc.name refl refl c.name;
         some_port = some_port x;
         ports = ports_printable x c;
         entries = sounds.printable;

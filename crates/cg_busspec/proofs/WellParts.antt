@@ -11,7 +11,7 @@ use Rattle.cg_svspec.specs.Tree.{net, cut, lit, cat, equal, none, expressions, E
 use Rattle.cg_svspec.proofs.NamesLemmas.{none_repeats}
 use Rattle.cg_svspec.specs.Links.{Link}
 use Rattle.cg_desc.specs.declared.crossbar.Range.{Range}
-use Rattle.cg_busspec.specs.Crossbar.{Crossbar, node}
+use Rattle.cg_busspec.specs.Crossbar.{device_ranges, Crossbar, node}
 use Rattle.cg_busspec.specs.Ranges.{IsRange}
 use Rattle.cg_busspec.specs.CrossbarModule.{clock_net, range_term, range_terms, select, bundle, requests, responses, fifo_instance, split_instance, join_instance}
 use Rattle.cg_busspec.proofs.Selects.{power_is, power_few}
@@ -52,13 +52,13 @@ pub record RangesFit (rs : List Range) : Type 0 where
   pub some : IsSomeOf rs
   pub few : length rs < 2 ^ 32
 
-pub select_sound : {e : Above} (x : Crossbar) (q : List ℕ) (j : ℕ) (ds : List ℕ) → Has e q 70 → j + length ds ≤ 64 → ((d : ℕ) → Among d ds → RangesFit (node x d).ranges)
+pub select_sound : {e : Above} (x : Crossbar) (q : List ℕ) (j : ℕ) (ds : List ℕ) → Has e q 70 → j + length ds ≤ 64 → ((d : ℕ) → Among d ds → RangesFit (device_ranges x d))
     → Sound e (5 + length ds) (select x q j ds) 8
 select_sound x q j [] h few g = sound_lit 5 8 j (omega arith) (omega arith, omega arith, omega arith)
 select_sound {e} x q j (d ∷ ds) h few g =
     let fit = g d (inl refl) in
     let deep : 5 + length (d ∷ ds) ≡ suc (5 + length ds) = omega arith in
-    let terms = sound_any (sound_cat (some_term q (node x d).ranges fit.some) fit.few (terms_sound q (node x d).ranges h fit.each)) in
+    let terms = sound_any (sound_cat (some_term q (device_ranges x d) fit.some) fit.few (terms_sound q (device_ranges x d) h fit.each)) in
     subst (λ z. Sound e z (select x q j (d ∷ ds)) 8) (sym deep)
     (sound_pick (sound_deeper terms (omega arith)) (sound_lit (5 + length ds) 8 j (omega arith) (omega arith, omega arith, omega arith))
     (select_sound x q (suc j) ds h (omega (arith, few)) (λ k m. g k (inr m))))

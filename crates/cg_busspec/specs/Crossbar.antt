@@ -1,4 +1,4 @@
--- Crossbars as their modules are made of them: nodes by their numbers, with the ranges that count, and which parts stand at each.
+-- A crossbar as its module is made of it: its nodes by their numbers, which parts stand at each, and the ranges that count.
 use Rattle.std.specs.Prelude.{ℕ, zero, suc, ◌+◌, eqb, leb, ltb, Bool, true, false, not, cond, ◌&&◌, ◌||◌, List, [], ◌∷◌, length, filter, flat_map, codes}
 use Rattle.std.specs.Str.{bytes_eq}
 use Rattle.cg_desc.specs.declared.crossbar.Range.{Range}
@@ -6,64 +6,36 @@ use Rattle.cg_desc.specs.declared.crossbar.NodeDesc.{NodeDesc}
 use Rattle.cg_desc.specs.declared.crossbar.NodeRanges.{NodeRanges}
 use Rattle.cg_desc.specs.declared.crossbar.XbarDesc.{XbarDesc}
 
--- a host or a device, with its clock; a host has the numbers of the devices that it connects to, and a device the ranges that count
-pub record Node : Type 0 where
-  pub name : List ℕ
-  pub host : Bool
-  pub clock : List ℕ
-  pub to : List ℕ
-  pub ranges : List Range
-
+-- A described crossbar, with the ranges of each of its nodes that count.
 pub record Crossbar : Type 0 where
-  pub name : List ℕ
-  pub clock : List ℕ
-  pub nodes : List Node
+  pub desc : XbarDesc
+  pub ranges : List NodeRanges
 
--- a described node with these ranges
-abbrev pub node_of : NodeDesc → List Range → Node
-node_of node rs = record { name = node.name; host = node.host; clock = node.clock; to = node.to; ranges = rs }
-
--- the ranges at the first place
-abbrev pub first_ranges : List NodeRanges → List Range
-first_ranges [] = []
-first_ranges (rs ∷ ranges) = rs.ranges
-
--- and those behind it
-abbrev pub later_ranges : List NodeRanges → List NodeRanges
-later_ranges [] = []
-later_ranges (rs ∷ ranges) = ranges
-
--- each described node with the ranges that stand at its place
-abbrev pub nodes_of : List NodeDesc → List NodeRanges → List Node
-nodes_of [] ranges = []
-nodes_of (node ∷ nodes) ranges = node_of node (first_ranges ranges) ∷ nodes_of nodes (later_ranges ranges)
-
--- a described crossbar, with the ranges of each of its nodes that count
 abbrev pub crossbar_of : XbarDesc → List NodeRanges → Crossbar
-crossbar_of x ranges = record { name = x.name; clock = x.clock; nodes = nodes_of x.nodes ranges }
+crossbar_of x ranges = record { desc = x; ranges = ranges }
 
 -- ---- nodes by their numbers
 
-abbrev pub no_node : Node
-no_node = record { name = []; host = false; clock = []; to = []; ranges = [] }
+abbrev pub no_node : NodeDesc
+no_node = record { name = []; host = false; xbar = false; clock = []; ranges = []; to = []; at = record { byte = 0; line = 1; column = 1 } }
 
-abbrev pub node_at : List Node → ℕ → Node
+abbrev pub node_at : List NodeDesc → ℕ → NodeDesc
 node_at [] i = no_node
 node_at (n ∷ ns) zero = n
 node_at (n ∷ ns) (suc i) = node_at ns i
 
 -- the numbers of the hosts, or of the devices, where the first node has number i
-abbrev pub numbers_of : Bool → ℕ → List Node → List ℕ
+abbrev pub numbers_of : Bool → ℕ → List NodeDesc → List ℕ
 numbers_of host i [] = []
 numbers_of host i (n ∷ ns) = cond (cond host n.host (not n.host)) (i ∷ numbers_of host (suc i) ns) (numbers_of host (suc i) ns)
 
-abbrev pub node : Crossbar → ℕ → Node
+abbrev pub node : XbarDesc → ℕ → NodeDesc
 node x i = node_at x.nodes i
 
-unfoldable pub hosts : Crossbar → List ℕ
+unfoldable pub hosts : XbarDesc → List ℕ
 hosts x = numbers_of true 0 x.nodes
 
-unfoldable pub devices : Crossbar → List ℕ
+unfoldable pub devices : XbarDesc → List ℕ
 devices x = numbers_of false 0 x.nodes
 
 -- a character of a node's name as it stands in nets: a dot is two underscores
@@ -71,7 +43,7 @@ abbrev pub label_character : ℕ → List ℕ
 label_character c = cond (eqb c 46) (codes "__") (c ∷ [])
 
 -- the node's name as it stands in nets
-unfoldable pub label : Crossbar → ℕ → List ℕ
+unfoldable pub label : XbarDesc → ℕ → List ℕ
 label x i = flat_map label_character (node x i).name
 
 -- the number is one of these
@@ -80,24 +52,33 @@ is_in [] i = false
 is_in (j ∷ js) i = eqb j i || is_in js i
 
 -- the devices that a host connects to, in its order
-unfoldable pub reach : Crossbar → ℕ → List ℕ
+unfoldable pub reach : XbarDesc → ℕ → List ℕ
 reach x h = (node x h).to
 
 -- the hosts that connect to a device, in the order of nodes
-unfoldable pub feeders : Crossbar → ℕ → List ℕ
+unfoldable pub feeders : XbarDesc → ℕ → List ℕ
 feeders x d = filter (λ h. is_in (reach x h) d) (hosts x)
 
 -- ---- parts: a 1-to-N socket stands behind each host, and
 
 -- an M-to-1 socket before each device to which more than one host connects
-unfoldable pub is_joined : Crossbar → ℕ → Bool
+unfoldable pub is_joined : XbarDesc → ℕ → Bool
 is_joined x d = leb 2 (length (feeders x d))
 
 -- a FIFO at each node whose clock is not the crossbar's
-unfoldable pub has_fifo : Crossbar → ℕ → Bool
+unfoldable pub has_fifo : XbarDesc → ℕ → Bool
 has_fifo x i = not (bytes_eq (node x i).clock x.clock)
 
 -- ---- ranges
+
+-- the ranges at a place
+abbrev pub ranges_at : List NodeRanges → ℕ → List Range
+ranges_at [] i = []
+ranges_at (rs ∷ ranges) zero = rs.ranges
+ranges_at (rs ∷ ranges) (suc i) = ranges_at ranges i
+
+abbrev pub device_ranges : Crossbar → ℕ → List Range
+device_ranges x d = ranges_at x.ranges d
 
 -- the address is in the range
 abbrev pub holds : ℕ → Range → Bool

@@ -6,7 +6,9 @@ use Rattle.cg_svspec.specs.Names.{is_among}
 use Rattle.cg_svspec.specs.WellFormed.{split_name, join_name, fifo_name}
 use Rattle.cg_svspec.specs.Links.{Link, link}
 use Rattle.cg_desc.specs.declared.crossbar.Range.{Range}
-use Rattle.cg_busspec.specs.Crossbar.{Node, Crossbar, node, hosts, devices, label, reach, feeders, is_joined, has_fifo}
+use Rattle.cg_desc.specs.declared.crossbar.NodeDesc.{NodeDesc}
+use Rattle.cg_desc.specs.declared.crossbar.XbarDesc.{XbarDesc}
+use Rattle.cg_busspec.specs.Crossbar.{Crossbar, node, device_ranges, hosts, devices, label, reach, feeders, is_joined, has_fifo}
 
 -- ---- nets
 
@@ -15,61 +17,61 @@ abbrev pub link_named : List ℕ → List ℕ → Link
 link_named start name = link (start ++ (name ++ codes "_req")) (start ++ (name ++ codes "_rsp"))
 
 -- a host's link, and that behind its FIFO
-abbrev pub h_link : Crossbar → ℕ → Link
+abbrev pub h_link : XbarDesc → ℕ → Link
 h_link x h = link_named (codes "h_") (label x h)
 
-abbrev pub f_link : Crossbar → ℕ → Link
+abbrev pub f_link : XbarDesc → ℕ → Link
 f_link x h = link_named (codes "f_") (label x h)
 
 -- a link from a host to a device that has an M-to-1 socket
-abbrev pub l_link : Crossbar → ℕ → ℕ → Link
+abbrev pub l_link : XbarDesc → ℕ → ℕ → Link
 l_link x h d = link_named (codes "l_") (label x h ++ (codes "_t_" ++ label x d))
 
 -- a device's link, and that before its FIFO
-abbrev pub m_link : Crossbar → ℕ → Link
+abbrev pub m_link : XbarDesc → ℕ → Link
 m_link x d = link_named (codes "m_") (label x d)
 
-abbrev pub d_link : Crossbar → ℕ → Link
+abbrev pub d_link : XbarDesc → ℕ → Link
 d_link x d = link_named (codes "d_") (label x d)
 
-abbrev pub sel : Crossbar → ℕ → List ℕ
+abbrev pub sel : XbarDesc → ℕ → List ℕ
 sel x h = codes "sel_" ++ label x h
 
 abbrev pub clock_net : List ℕ → List ℕ
 clock_net c = codes "c_" ++ c
 
 -- the link at a host's socket
-unfoldable pub socket_link : Crossbar → ℕ → Link
+unfoldable pub socket_link : XbarDesc → ℕ → Link
 socket_link x h = cond (has_fifo x h) (f_link x h) (h_link x h)
 
 -- the first link of a device behind its M-to-1 socket, if it has one
-unfoldable pub joined_link : Crossbar → ℕ → Link
+unfoldable pub joined_link : XbarDesc → ℕ → Link
 joined_link x d = cond (has_fifo x d) (m_link x d) (d_link x d)
 
 -- the link to a device behind a host's socket
-unfoldable pub lane : Crossbar → ℕ → ℕ → Link
+unfoldable pub lane : XbarDesc → ℕ → ℕ → Link
 lane x h d = cond (is_joined x d) (l_link x h d) (joined_link x d)
 
 -- ---- ports
 
 -- the clocks in the order of their first use
-abbrev pub new_clocks : List (List ℕ) → List Node → List (List ℕ)
+abbrev pub new_clocks : List (List ℕ) → List NodeDesc → List (List ℕ)
 new_clocks seen [] = []
 new_clocks seen (n ∷ ns) = cond (is_among seen n.clock) (new_clocks seen ns) (n.clock ∷ new_clocks (n.clock ∷ seen) ns)
 
-unfoldable pub clocks : Crossbar → List (List ℕ)
+unfoldable pub clocks : XbarDesc → List (List ℕ)
 clocks x = x.clock ∷ new_clocks (x.clock ∷ []) x.nodes
 
 abbrev pub clock_port : List ℕ → Port
 clock_port c = input_port 1 (clock_net c)
 
-abbrev pub host_ports : Crossbar → ℕ → List Port
+abbrev pub host_ports : XbarDesc → ℕ → List Port
 host_ports x h = input_port 70 (h_link x h).request ∷ output_port 33 (h_link x h).response ∷ []
 
-abbrev pub device_ports : Crossbar → ℕ → List Port
+abbrev pub device_ports : XbarDesc → ℕ → List Port
 device_ports x d = output_port 70 (d_link x d).request ∷ input_port 33 (d_link x d).response ∷ []
 
-unfoldable pub crossbar_ports : Crossbar → List Port
+unfoldable pub crossbar_ports : XbarDesc → List Port
 crossbar_ports x = map clock_port (clocks x) ++ (flat_map (host_ports x) (hosts x) ++ flat_map (device_ports x) (devices x))
 
 -- ---- 1: the links between parts
@@ -81,16 +83,16 @@ link_wires l = wire 70 l.request ∷ wire 33 l.response ∷ []
 abbrev pub entries_if : Bool → List Entry → List Entry
 entries_if b es = cond b es []
 
-abbrev pub host_wires : Crossbar → ℕ → List Entry
+abbrev pub host_wires : XbarDesc → ℕ → List Entry
 host_wires x h = entries_if (has_fifo x h) (link_wires (f_link x h))
 
-abbrev pub lane_wires : Crossbar → ℕ → ℕ → List Entry
+abbrev pub lane_wires : XbarDesc → ℕ → ℕ → List Entry
 lane_wires x h d = entries_if (is_joined x d) (link_wires (l_link x h d))
 
-abbrev pub host_lanes : Crossbar → ℕ → List Entry
+abbrev pub host_lanes : XbarDesc → ℕ → List Entry
 host_lanes x h = flat_map (lane_wires x h) (reach x h)
 
-abbrev pub device_wires : Crossbar → ℕ → List Entry
+abbrev pub device_wires : XbarDesc → ℕ → List Entry
 device_wires x d = entries_if (has_fifo x d) (link_wires (m_link x d))
 
 -- ---- 2: the selects
@@ -117,10 +119,10 @@ range_terms q (r ∷ rs) = more (range_term q r) (range_terms q rs)
 -- the number of the first of the devices, from number j on, one of whose ranges has the request's address
 abbrev pub select : Crossbar → List ℕ → ℕ → List ℕ → Expression
 select x q j [] = lit 8 j
-select x q j (d ∷ ds) = pick (any (cat (range_terms q (node x d).ranges))) (lit 8 j) (select x q (suc j) ds)
+select x q j (d ∷ ds) = pick (any (cat (range_terms q (device_ranges x d)))) (lit 8 j) (select x q (suc j) ds)
 
 abbrev pub host_select : Crossbar → ℕ → Entry
-host_select x h = drive 8 (sel x h) (select x (socket_link x h).request 0 (reach x h))
+host_select x h = drive 8 (sel x.desc h) (select x (socket_link x.desc h).request 0 (reach x.desc h))
 
 -- ---- 3: the parts
 
@@ -166,41 +168,41 @@ join_instance name clock ls b =
     ∷ connection (codes "req_i") (bundle (requests ls)) ∷ connection (codes "rsp_o") (bundle (responses ls))
     ∷ connection (codes "req_o") (net b.request) ∷ connection (codes "rsp_i") (net b.response) ∷ [])
 
-abbrev pub host_fifo_entry : Crossbar → ℕ → Entry
+abbrev pub host_fifo_entry : XbarDesc → ℕ → Entry
 host_fifo_entry x h = fifo_instance (codes "u_hf_" ++ label x h) (node x h).clock x.clock (h_link x h) (f_link x h)
 
-abbrev pub host_split_entry : Crossbar → ℕ → Entry
+abbrev pub host_split_entry : XbarDesc → ℕ → Entry
 host_split_entry x h = split_instance (codes "u_s_" ++ label x h) x.clock (sel x h) (socket_link x h) (map (lane x h) (reach x h))
 
 -- the links from a device's hosts
-abbrev pub join_lanes : Crossbar → ℕ → List Link
+abbrev pub join_lanes : XbarDesc → ℕ → List Link
 join_lanes x d = map (λ h. l_link x h d) (feeders x d)
 
-abbrev pub device_join_entry : Crossbar → ℕ → Entry
+abbrev pub device_join_entry : XbarDesc → ℕ → Entry
 device_join_entry x d = join_instance (codes "u_m_" ++ label x d) x.clock (join_lanes x d) (joined_link x d)
 
-abbrev pub device_fifo_entry : Crossbar → ℕ → Entry
+abbrev pub device_fifo_entry : XbarDesc → ℕ → Entry
 device_fifo_entry x d = fifo_instance (codes "u_df_" ++ label x d) x.clock (node x d).clock (m_link x d) (d_link x d)
 
-abbrev pub host_parts : Crossbar → ℕ → List Entry
+abbrev pub host_parts : XbarDesc → ℕ → List Entry
 host_parts x h = entries_if (has_fifo x h) (host_fifo_entry x h ∷ []) ++ (host_split_entry x h ∷ [])
 
-abbrev pub device_parts : Crossbar → ℕ → List Entry
+abbrev pub device_parts : XbarDesc → ℕ → List Entry
 device_parts x d = entries_if (is_joined x d) (device_join_entry x d ∷ []) ++ entries_if (has_fifo x d) (device_fifo_entry x d ∷ [])
 
 -- ---- the whole
 
-abbrev pub crossbar_wires : Crossbar → List Entry
+abbrev pub crossbar_wires : XbarDesc → List Entry
 crossbar_wires x = flat_map (host_wires x) (hosts x) ++ (flat_map (host_lanes x) (hosts x) ++ flat_map (device_wires x) (devices x))
 
 abbrev pub crossbar_selects : Crossbar → List Entry
-crossbar_selects x = map (host_select x) (hosts x)
+crossbar_selects x = map (host_select x) (hosts x.desc)
 
-abbrev pub crossbar_parts : Crossbar → List Entry
+abbrev pub crossbar_parts : XbarDesc → List Entry
 crossbar_parts x = flat_map (host_parts x) (hosts x) ++ flat_map (device_parts x) (devices x)
 
 unfoldable pub crossbar_entries : Crossbar → List Entry
-crossbar_entries x = crossbar_wires x ++ (crossbar_selects x ++ crossbar_parts x)
+crossbar_entries x = crossbar_wires x.desc ++ (crossbar_selects x ++ crossbar_parts x.desc)
 
 unfoldable pub crossbar_module : Crossbar → Module
-crossbar_module x = record { name = codes "xbar_" ++ x.name; ports = crossbar_ports x; entries = crossbar_entries x }
+crossbar_module x = record { name = codes "xbar_" ++ x.desc.name; ports = crossbar_ports x.desc; entries = crossbar_entries x }
