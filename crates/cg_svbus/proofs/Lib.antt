@@ -1,2 +1,5 @@
 pub mod Labels
 pub mod NodeLists
+pub mod Powers
+pub mod Bundles
+pub mod Made

@@ -1,7 +1,11 @@
 //! The writer of crossbars' modules.
 #![tactic(auto)]
 
+mod instances;
 mod links;
+mod module;
 mod nodes;
+mod parts;
 mod ports;
+mod selects;
 mod wires;
