@@ -1,0 +1,5 @@
+mod Order
+mod PartsListed
+mod Numbers
+mod ClocksListed
+mod ClocksUsed

@@ -1,5 +1,5 @@
 -- The parts and the clocks of a crossbar as whole lists.
-use Rattle.std.specs.Prelude.{ℕ, suc, Bool, true, false, not, cond, ◌||◌, nat_le, List, [], ◌∷◌, ◌++◌, length, filter, flat_map, Option, Some, None, slice_get, ◌==◌}
+use Rattle.std.specs.Prelude.{ℕ, suc, Bool, true, false, not, cond, nat_le, List, [], ◌∷◌, ◌++◌, length, filter, flat_map, slice_get, ◌==◌}
 use Rattle.std.specs.Option.{option_map_or}
 use Rattle.std.specs.Str.{bytes_eq}
 use Rattle.std.specs.List.{list_any}

@@ -4,9 +4,11 @@ ghost use Rattle.std.specs.Prelude.{◌≡◌, ◌<◌, ◌^◌, IfOk, length};
 ghost use Rattle.cg_nodes.specs.Parts.{IsParts};
 ghost use Rattle.cg_nodes.specs.Clocks.{IsClocks};
 
-use crate::parts::Part;
+use crate::clocks::clocks_of;
+use crate::parts::{Part, parts_of};
 use cg_base::{List, Memory, Text};
 use cg_desc::XbarDesc;
+use cg_twin::copy_xbar;
 use std::alloc::Global;
 
 /// A crossbar: its description, its parts in the order in which they are written, and its clocks in the order of first use.
@@ -24,5 +26,12 @@ pub fn nodes(alloc: Global, xbar: &XbarDesc) -> Result<Graph, Memory>
     ensures parts { IfOk result (λ graph. IsParts xbar.now graph.parts) }
     ensures clocks { IfOk result (λ graph. IsClocks xbar.now graph.clocks) }
 {
-    Err(Memory)
+    let parts = parts_of(alloc, xbar)?;
+    let clocks = clocks_of(alloc, xbar)?;
+    let desc = copy_xbar(alloc, xbar)?;
+    Ok(Graph {
+        desc,
+        parts,
+        clocks,
+    })
 }

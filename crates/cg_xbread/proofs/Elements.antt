@@ -1,5 +1,5 @@
 -- What an element of a connection breaks, by a set of the names that stand before it.
-use Rattle.std.proofs.Common.{◌≡◌, ℕ, Bool, true, false, not, cond, List, [], ◌∷◌, Option, ap, sym, refl, ◌∙◌}
+use Rattle.std.proofs.Common.{◌≡◌, ℕ, Bool, true, false, not, cond, List, [], ◌∷◌, Option, ap, refl, ◌∙◌}
 use Rattle.std.specs.List.{list_any}
 use Rattle.std.specs.Str.{bytes_eq}
 use Rattle.cg_finding.specs.Finding.{Finding, finding, first_of}
@@ -24,9 +24,9 @@ element_by_set nodes before element name seen is_new is_device found named set t
     let known : is_new ≡ not (list_any (λ b. bytes_eq (text_of b) (text_of element)) before) = told ∙ ap (λ n. not (has seen n)) named ∙ ap not (set (text_of element)) in
     is
     ∙ ap (λ fs. first_of (cond is_device fs (finding 6 51 element.at (text_of element) ∷ [])))
-      (unless_new is_new (list_any (λ b. bytes_eq (text_of b) (text_of element)) before) (finding 6 50 element.at (text_of element) ∷ []) known)
+    (unless_new is_new (list_any (λ b. bytes_eq (text_of b) (text_of element)) before) (finding 6 50 element.at (text_of element) ∷ []) known)
     ∙ ap (λ b. first_of (cond b (cond (list_any (λ e. bytes_eq (text_of e) (text_of element)) before) (finding 6 50 element.at (text_of element) ∷ []) []) (finding 6 51 element.at (text_of element) ∷ [])))
-      (device ∙ ap (is_named false nodes) named)
+    (device ∙ ap (is_named false nodes) named)
 
 -- a node by a set of the names before it
 pub node_by_set : (before : List WrittenNode) (node : WrittenNode) (seen : Names) (is_new : Bool) (found : Option Finding)

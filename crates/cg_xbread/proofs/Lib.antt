@@ -1,3 +1,15 @@
 mod SeenNames
 mod Heard
 mod Elements
+mod Tests
+mod ListFacts
+mod FirstMembers
+mod NodeNames
+mod KeyFacts
+mod NodeFacts
+mod FirstBroken
+mod Fitting
+mod Numbers
+mod ValidParts
+mod ValidEnds
+mod Valid

@@ -1,5 +1,5 @@
 -- The description of a crossbar that breaks no rule.
-use Rattle.std.specs.Prelude.{ℕ, Bool, true, false, cond, List, [], ◌∷◌, map, position, codes, unwrap_or}
+use Rattle.std.specs.Prelude.{ℕ, false, cond, List, [], map, position, codes, unwrap_or}
 use Rattle.std.specs.Str.{bytes_eq}
 use Rattle.cg_desc.specs.declared.crossbar.Range.{Range}
 use Rattle.cg_desc.specs.declared.crossbar.NodeDesc.{NodeDesc}

@@ -1,5 +1,5 @@
 -- What a crossbar's description breaks, as lists of findings.
-use Rattle.std.specs.Prelude.{ℕ, Bool, true, false, not, ◌&&◌, ◌||◌, cond, nat_lt, length, List, [], ◌∷◌, ◌++◌, flat_map, codes, Option, Some, None}
+use Rattle.std.specs.Prelude.{ℕ, Bool, true, false, not, ◌&&◌, cond, nat_lt, length, List, [], ◌∷◌, ◌++◌, flat_map, codes}
 use Rattle.std.specs.List.{list_any, before_first, after_first, position_or_len}
 use Rattle.std.specs.Option.{option_map_or}
 use Rattle.std.specs.Prelude.{eqb}
@@ -12,9 +12,9 @@ use Rattle.cg_keys.specs.Elements.{each_faults, element_faults, elements, length
 use Rattle.cg_keys.specs.Forms.{is_name, name_limit}
 use Rattle.cg_keys.specs.Table.{table_faults, value_at, value_faults}
 use Rattle.cg_keys.specs.Values.{items_of, members_of, text_in}
-use Rattle.cg_keys.specs.declared.forms.Form.TheVariants.{Items, Object, Text}
+use Rattle.cg_keys.specs.declared.forms.Form.TheVariants.{Items, Text}
 use Rattle.cg_xbread.specs.Tables.{crossbar_keys, node_keys, range_keys}
-use Rattle.cg_xbread.specs.Written.{connections_of, nodes_of, text_of}
+use Rattle.cg_xbread.specs.Written.{connections_of, text_of}
 use Rattle.cg_xbread.specs.declared.written.WrittenNode.{WrittenNode}
 
 -- ---- names of nodes

@@ -2,7 +2,6 @@
 use Rattle.std.specs.Prelude.{ℕ, not, ◌&&◌, cond, is_some, List, [], ◌∷◌, codes}
 use Rattle.cg_hjson.specs.declared.tree.Member.{Member}
 use Rattle.cg_keys.specs.Table.{Key, needs, may, value_at}
-use Rattle.cg_keys.specs.declared.forms.Form.{Form}
 use Rattle.cg_keys.specs.declared.forms.Form.TheVariants.{Text, Name, Number, Boolean, Items, Object, Word}
 use Rattle.cg_keys.specs.declared.words.Words.TheVariants.{NodeType}
 

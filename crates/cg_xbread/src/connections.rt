@@ -55,7 +55,10 @@ fn first_in_each_connection<'a>(members: &[&'a Member]) -> Option<Found<'a>>
 }
 
 /// What is asked of the kinds of connections.
-pub(crate) fn first_in_connections(alloc: Global, connections: &[Member]) -> Result<Option<Found<'_>>, Memory>
+pub(crate) fn first_in_connections(
+    alloc: Global,
+    connections: &[Member],
+) -> Result<Option<Found<'_>>, Memory>
     ensures { IfOk result (λ found. sees found ≡ first_of (flat_map connection_faults (first_members connections.now))) }
 {
     let firsts = first_members(alloc, connections)?;

@@ -1,6 +1,7 @@
 //! The description of a crossbar that breaks no rule.
 
-ghost use Rattle.std.specs.Prelude.{◌≡◌, ◌<◌, ◌^◌, [], codes, false, IfOk, length, map, unwrap_or};
+ghost use Rattle.std.specs.Prelude.{◌≡◌, ◌<◌, ◌^◌, [], codes, false, IfOk, IfSome, length, map, position, unwrap_or};
+ghost use Rattle.std.specs.Str.{bytes_eq};
 ghost use Rattle.cg_desc.specs.Crossbar.{IsValidCrossbar};
 ghost use Rattle.cg_keys.specs.Lookups.{boolean_at, number_at, text_at};
 ghost use Rattle.cg_xbread.specs.Described.{clock_of, crossbar_of, node_of, number_of, range_of, to_of};
@@ -54,13 +55,20 @@ fn ranges_of(alloc: Global, items: &[Tree]) -> Result<List<Range>, Memory>
     Ok(ranges)
 }
 
+fn place_of(nodes: &[WrittenNode], name: &str) -> Option<usize>
+    ensures place { result ≡ position (λ node. bytes_eq node.name name.now) nodes.now }
+    ensures within { IfSome result (λ place. place < length nodes.now) }
+{
+    nodes.iter().position(|node| node.name.as_str() == name)
+}
+
 /// The number of the first node with this name.
 #[tactic(auto, unfolding(crate::specs::Described::number_of))]
 fn number_of(nodes: &[WrittenNode], name: &str) -> u32
     requires { length nodes.now < 2 ^ 32 }
     ensures { result ≡ number_of nodes.now name.now }
 {
-    match nodes.iter().position(|node| node.name.as_str() == name) {
+    match place_of(nodes, name) {
         Some(number) => number as u32,
         None => 0,
     }
@@ -79,7 +87,12 @@ fn numbers_of(alloc: Global, nodes: &[WrittenNode], elements: &[Tree]) -> Result
 
 /// The numbers of the devices that a node connects to.
 #[tactic(auto, unfolding(crate::specs::Described::to_of))]
-fn to_of(alloc: Global, nodes: &[WrittenNode], connections: &[Member], node: &WrittenNode) -> Result<List<u32>, Memory>
+fn to_of(
+    alloc: Global,
+    nodes: &[WrittenNode],
+    connections: &[Member],
+    node: &WrittenNode,
+) -> Result<List<u32>, Memory>
     requires { length nodes.now < 2 ^ 32 }
     ensures { IfOk result (λ to. to ≡ to_of nodes.now connections.now node.now) }
 {
@@ -92,7 +105,13 @@ fn to_of(alloc: Global, nodes: &[WrittenNode], connections: &[Member], node: &Wr
 
 /// A node, by what its members say and what is written of it.
 #[tactic(auto, unfolding(crate::specs::Described::node_of))]
-fn node_of(alloc: Global, clock: &str, nodes: &[WrittenNode], connections: &[Member], tree: &Tree) -> Result<NodeDesc, Memory>
+fn node_of(
+    alloc: Global,
+    clock: &str,
+    nodes: &[WrittenNode],
+    connections: &[Member],
+    tree: &Tree,
+) -> Result<NodeDesc, Memory>
     requires { length nodes.now < 2 ^ 32 }
     ensures { IfOk result (λ node. node ≡ node_of clock.now nodes.now connections.now tree.now) }
 {
@@ -111,7 +130,13 @@ fn node_of(alloc: Global, clock: &str, nodes: &[WrittenNode], connections: &[Mem
     })
 }
 
-fn describe_nodes(alloc: Global, clock: &str, nodes: &[WrittenNode], connections: &[Member], items: &[Tree]) -> Result<List<NodeDesc>, Memory>
+fn describe_nodes(
+    alloc: Global,
+    clock: &str,
+    nodes: &[WrittenNode],
+    connections: &[Member],
+    items: &[Tree],
+) -> Result<List<NodeDesc>, Memory>
     requires { length nodes.now < 2 ^ 32 }
     ensures { IfOk result (λ described. described ≡ map (node_of clock.now nodes.now connections.now) items.now) }
 {
@@ -124,7 +149,13 @@ fn describe_nodes(alloc: Global, clock: &str, nodes: &[WrittenNode], connections
 
 /// The description of the crossbar whose file has this number.
 #[tactic(auto, unfolding(crate::specs::Described::crossbar_of))]
-pub(crate) fn describe_crossbar(alloc: Global, tree: &Tree, nodes: &[WrittenNode], connections: &[Member], file: u32) -> Result<XbarDesc, Memory>
+pub(crate) fn describe_crossbar(
+    alloc: Global,
+    tree: &Tree,
+    nodes: &[WrittenNode],
+    connections: &[Member],
+    file: u32,
+) -> Result<XbarDesc, Memory>
     requires few { length nodes.now < 2 ^ 32 }
     requires nodes { nodes.now ≡ nodes_of tree.now }
     requires connections { connections.now ≡ connections_of tree.now }
@@ -136,7 +167,13 @@ pub(crate) fn describe_crossbar(alloc: Global, tree: &Tree, nodes: &[WrittenNode
         file,
         name: Text::of(alloc, text_at(crossbar, "name").unwrap_or(""))?,
         clock: Text::of(alloc, clock)?,
-        nodes: describe_nodes(alloc, clock, nodes, connections, elements(crossbar, "nodes"))?,
+        nodes: describe_nodes(
+            alloc,
+            clock,
+            nodes,
+            connections,
+            elements(crossbar, "nodes"),
+        )?,
         at: tree.at,
     })
 }

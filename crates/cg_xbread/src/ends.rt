@@ -49,7 +49,11 @@ fn first_in_element(is_device: bool, is_new: bool, element: &Tree) -> Option<Fou
 
 /// The first element that is no device, or a device that the list has before. Each is looked up once, in a set.
 #[tactic(auto, using(cg_finding::proofs::Firsts::firsts))]
-fn first_in_elements<'a>(alloc: Global, nodes: &[WrittenNode], elements: &'a [Tree]) -> Result<Option<Found<'a>>, Memory>
+fn first_in_elements<'a>(
+    alloc: Global,
+    nodes: &[WrittenNode],
+    elements: &'a [Tree],
+) -> Result<Option<Found<'a>>, Memory>
     ensures { IfOk result (λ found. sees found ≡ first_of (each_after (element_faults_after nodes.now) [] elements.now)) }
 {
     let mut seen = HashSet::new(alloc);
@@ -80,7 +84,11 @@ fn unknown_host<'a>(nodes: &[WrittenNode], connection: &'a Member) -> Option<Fou
 }
 
 #[tactic(auto, unfolding(crate::specs::Listed::ends_faults), using(cg_finding::proofs::Firsts::firsts))]
-fn first_in_ends<'a>(alloc: Global, nodes: &[WrittenNode], connection: &'a Member) -> Result<Option<Found<'a>>, Memory>
+fn first_in_ends<'a>(
+    alloc: Global,
+    nodes: &[WrittenNode],
+    connection: &'a Member,
+) -> Result<Option<Found<'a>>, Memory>
     ensures { IfOk result (λ found. sees found ≡ first_of (ends_faults nodes.now connection.now)) }
 {
     let key = unknown_host(nodes, connection);
@@ -90,7 +98,11 @@ fn first_in_ends<'a>(alloc: Global, nodes: &[WrittenNode], connection: &'a Membe
 
 /// The first connection whose key is no host, or element that is no device or stands before in its list.
 #[tactic(auto, using(cg_finding::proofs::Firsts::firsts))]
-pub(crate) fn first_in_all_ends<'a>(alloc: Global, nodes: &[WrittenNode], connections: &'a [Member]) -> Result<Option<Found<'a>>, Memory>
+pub(crate) fn first_in_all_ends<'a>(
+    alloc: Global,
+    nodes: &[WrittenNode],
+    connections: &'a [Member],
+) -> Result<Option<Found<'a>>, Memory>
     ensures { IfOk result (λ found. sees found ≡ first_of (flat_map (ends_faults nodes.now) connections.now)) }
 {
     let mut first = None;
@@ -113,7 +125,11 @@ fn hear<'a>(mut names: HashSet<&'a str>, elements: &'a [Tree]) -> Result<HashSet
 }
 
 /// The names that those of these connections list whose keys are hosts.
-fn heard_in<'a>(alloc: Global, nodes: &[WrittenNode], connections: &[&'a Member]) -> Result<HashSet<&'a str>, Memory>
+fn heard_in<'a>(
+    alloc: Global,
+    nodes: &[WrittenNode],
+    connections: &[&'a Member],
+) -> Result<HashSet<&'a str>, Memory>
     ensures { IfOk result (λ names. (name : List ℕ)
         → contains_by (λ k. bytes_eq name k.now) names
         ≡ list_any (λ e. bytes_eq (text_of e) name) (flat_map (host_elements nodes.now) (map (λ m. m.now) connections.now))) }
@@ -130,7 +146,11 @@ fn heard_in<'a>(alloc: Global, nodes: &[WrittenNode], connections: &[&'a Member]
 
 /// The names that the connections of hosts list. Where of two connections with one key the first counts.
 #[tactic(auto, unfolding(crate::specs::Listed::heard))]
-pub(crate) fn heard<'a>(alloc: Global, nodes: &[WrittenNode], connections: &'a [Member]) -> Result<HashSet<&'a str>, Memory>
+pub(crate) fn heard<'a>(
+    alloc: Global,
+    nodes: &[WrittenNode],
+    connections: &'a [Member],
+) -> Result<HashSet<&'a str>, Memory>
     ensures { IfOk result (λ names. (name : List ℕ)
         → contains_by (λ k. bytes_eq name k.now) names ≡ list_any (λ e. bytes_eq (text_of e) name) (heard nodes.now connections.now)) }
 {

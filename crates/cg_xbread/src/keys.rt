@@ -102,8 +102,5 @@ pub(crate) fn first_in_keys(alloc: Global, tree: &Tree) -> Result<Option<Found<'
     let nodes = first_in_nodes(elements(crossbar, "nodes"));
     let connections = first_in_connections(alloc, connections_of(tree))?;
     let inner = earlier_of(kinds, earlier_of(nodes, connections));
-    Ok(earlier_of(
-        duplicate,
-        earlier_of(keys, earlier_of(length, inner)),
-    ))
+    Ok(earlier_of(duplicate, earlier_of(keys, earlier_of(length, inner))))
 }

@@ -98,7 +98,11 @@ fn lonely_device<'a>(heard: &HashSet<&str>, node: &'a WrittenNode) -> Option<Fou
 }
 
 #[tactic(auto, using(cg_finding::proofs::Firsts::firsts))]
-fn first_lonely_device<'a>(alloc: Global, nodes: &'a [WrittenNode], connections: &[Member]) -> Result<Option<Found<'a>>, Memory>
+fn first_lonely_device<'a>(
+    alloc: Global,
+    nodes: &'a [WrittenNode],
+    connections: &[Member],
+) -> Result<Option<Found<'a>>, Memory>
     ensures { IfOk result (λ found. sees found ≡ first_of (flat_map (lonely_device (heard nodes.now connections.now)) nodes.now)) }
 {
     let heard = heard(alloc, nodes, connections)?;
@@ -113,15 +117,16 @@ fn first_lonely_device<'a>(alloc: Global, nodes: &'a [WrittenNode], connections:
 ///
 /// Names are kept in sets, so it takes memory.
 #[tactic(auto, unfolding(crate::specs::Listed::node_rules), using(cg_finding::proofs::Firsts::firsts))]
-pub(crate) fn first_in_node_rules<'a>(alloc: Global, nodes: &'a [WrittenNode], connections: &'a [Member]) -> Result<Option<Found<'a>>, Memory>
+pub(crate) fn first_in_node_rules<'a>(
+    alloc: Global,
+    nodes: &'a [WrittenNode],
+    connections: &'a [Member],
+) -> Result<Option<Found<'a>>, Memory>
     ensures { IfOk result (λ found. sees found ≡ first_of (node_rules nodes.now connections.now)) }
 {
     let twice = first_node_twice(alloc, nodes)?;
     let ends = first_in_all_ends(alloc, nodes, connections)?;
     let hosts = first_lonely_host(nodes, connections);
     let devices = first_lonely_device(alloc, nodes, connections)?;
-    Ok(earlier_of(
-        twice,
-        earlier_of(ends, earlier_of(hosts, devices)),
-    ))
+    Ok(earlier_of(twice, earlier_of(ends, earlier_of(hosts, devices))))
 }

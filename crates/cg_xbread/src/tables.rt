@@ -1,7 +1,7 @@
 //! The keys of a crossbar's objects, with the forms of their values.
 
-ghost use Rattle.std.specs.Prelude.{◌≡◌, map};
-ghost use Rattle.cg_keys.specs.Table.{key_of};
+ghost use Rattle.std.specs.Prelude.{◌≡◌, ◌&&◌, codes, is_some, map, not};
+ghost use Rattle.cg_keys.specs.Table.{key_of, value_at};
 ghost use Rattle.cg_xbread.specs.Tables.{clock_key, crossbar_keys, node_keys, range_keys};
 
 use cg_hjson::Member;
@@ -91,12 +91,19 @@ const RANGE: [Row; 2] = [
     },
 ];
 
+/// Whether `clock_primary` stands and `clock` does not.
+fn has_primary_alone(members: &[Member]) -> bool
+    ensures { result ≡ (not (is_some (value_at (codes "clock") members.now)) && is_some (value_at (codes "clock_primary") members.now)) }
+{
+    value_at(members, "clock").is_none() && value_at(members, "clock_primary").is_some()
+}
+
 /// The key that tells a crossbar's clock.
 #[tactic(auto, unfolding(crate::specs::Tables::clock_key))]
 pub(crate) fn clock_key(members: &[Member]) -> &'static str
     ensures { result.now ≡ clock_key members.now }
 {
-    if value_at(members, "clock").is_none() && value_at(members, "clock_primary").is_some() {
+    if has_primary_alone(members) {
         "clock_primary"
     } else {
         "clock"
@@ -108,7 +115,7 @@ pub(crate) fn clock_key(members: &[Member]) -> &'static str
 pub(crate) fn crossbar_rows(members: &[Member]) -> &'static [Row]
     ensures { map key_of result.now ≡ crossbar_keys members.now }
 {
-    if value_at(members, "clock").is_none() && value_at(members, "clock_primary").is_some() {
+    if has_primary_alone(members) {
         &CROSSBAR_WITH_PRIMARY
     } else {
         &CROSSBAR

@@ -1,5 +1,4 @@
-use Rattle.std.proofs.Common.{◌≡◌, not, ◌||◌, cond, List, [], ◌∷◌, ap, sym, take, ◌∙◌}
-use Rattle.cg_finding.proofs.Firsts.{None-earlier}
+use Rattle.std.proofs.Common.{sym, take, ◌∙◌}
 use Rattle.cg_finding.proofs.Loops.{no_more_after, one_more_after}
 use Rattle.cg_xbread.specs.Listed.{element_faults_after}
 use Rattle.cg_xbread.specs.Written.{text_of}

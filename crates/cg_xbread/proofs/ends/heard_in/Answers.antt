@@ -1,8 +1,5 @@
-use Rattle.std.proofs.Common.{◌≡◌, ℕ, ◌||◌, List, [], cond, true, ap, sym, ◌∙◌}
-use Rattle.std.specs.List.{flat_map}
-use Rattle.cg_keys.specs.Values.{items_of}
-use Rattle.cg_hjson.specs.declared.tree.Tree.{Tree}
-use Rattle.cg_xbread.specs.Listed.{host_elements, is_named}
+use Rattle.std.proofs.Common.{◌||◌, ap, sym, ◌∙◌}
+use Rattle.cg_xbread.specs.Listed.{host_elements}
 use Rattle.cg_xbread.proofs.Heard.{all_connections, key_known, key_unknown, lists_name, no_element, one_connection}
 use Rattle.cg_xbread.proofs.SeenNames.{has}
 use Rattle.cg_xbread.proofs.ends.heard_in.Goals as goal
@@ -20,7 +17,7 @@ loop-connection-preserved c = λ n.
     c.loop-connection-test.true c.connection-item.is
     (c.in_ok-names.ensures n
     ∙ ap (λ es. has c.loop-connection.names.keys n || lists_name es n)
-      (c.items.ensures ∙ sym (key_known c.args.nodes.now c.connection-item.result.now c.as_str.result.now _ c.as_str.ensures c.is_named.ensures c.if-not-is_named.false)))
+    (c.items.ensures ∙ sym (key_known c.args.nodes.now c.connection-item.result.now c.as_str.result.now _ c.as_str.ensures c.is_named.ensures c.if-not-is_named.false)))
     ∙ c.loop-connection.invariant n
 
 pub returns : goal.returns

@@ -1,4 +1,4 @@
-use Rattle.std.proofs.Common.{◌≡◌, List, ap, sym, refl, take, ◌∙◌, not}
+use Rattle.std.proofs.Common.{ap, sym, take, ◌∙◌, not}
 use Rattle.cg_finding.proofs.Loops.{no_more_after, one_more_after}
 use Rattle.cg_xbread.specs.Listed.{node_twice}
 use Rattle.cg_xbread.proofs.SeenNames.{has, one_more_name}
