@@ -3,3 +3,4 @@ pub mod NodeLists
 pub mod Powers
 pub mod Bundles
 pub mod Made
+pub mod Graphs

@@ -9,3 +9,5 @@ mod parts;
 mod ports;
 mod selects;
 mod wires;
+
+pub use module::xbar_module;

@@ -1,168 +1,101 @@
 //! A whole crossbar module.
 
-ghost use Rattle.std.specs.Prelude.{◌≡◌, ◌++◌, [], ◌∷◌, IfOk, OnOk, map, flat_map};
-ghost use Rattle.cg_busspec.specs.Crossbar.{crossbar_of, hosts, devices};
-ghost use Rattle.cg_busspec.specs.CrossbarModule.{clocks, host_parts, device_parts, crossbar_ports, crossbar_wires, crossbar_parts, crossbar_entries, crossbar_module};
+ghost use Rattle.std.specs.Prelude.{◌≡◌, ◌++◌, List, ℕ, Some, None, Err, IfOk, OnOk, map};
+ghost use Rattle.cg_svspec.specs.Names.{module_names, first_repeat};
+ghost use Rattle.cg_desc.specs.Crossbar.{IsValidCrossbar};
+ghost use Rattle.cg_busspec.specs.Crossbar.{crossbar_of};
+ghost use Rattle.cg_busspec.specs.CrossbarMeaning.{CrossbarMeans};
+ghost use Rattle.cg_busspec.specs.CrossbarModule.{crossbar_ports, crossbar_entries, crossbar_module};
+ghost use Rattle.cg_busspec.specs.Ranges.{AreRangesOf};
+ghost use Rattle.cg_nodes.specs.Parts.{IsParts};
+ghost use Rattle.cg_nodes.specs.Clocks.{IsClocks};
+ghost use Rattle.cg_nodes.specs.Listed.{parts_of, clocks_of};
 ghost use Rattle.cg_sv.specs.Views.{module_of, port_of, entry_of};
+ghost use Rattle.cg_sv.specs.declared.fault.SvRegFault.TheVariants as SvRegFault;
 
-use crate::nodes::{devices, has_fifo, hosts, is_joined};
-use crate::parts::{add_device_fifo, add_device_join, add_host_fifo, add_host_split};
+use crate::nodes::{devices, hosts};
+use crate::parts::add_parts;
 use crate::ports::{add_clock_ports, add_devices_ports, add_hosts_ports};
 use crate::selects::add_selects;
 use crate::wires::{add_devices_wires, add_hosts_lanes, add_hosts_wires};
 use cg_base::{List, Memory, Text};
-use cg_desc::{NodeRanges, XbarDesc};
-use cg_sv::{Entry, Module, Port};
+use cg_busspec::crossbar_module_means;
+use cg_desc::NodeRanges;
+use cg_nodes::{Graph, clocks_are_one, parts_are_one};
+use cg_sv::{Entry, Module, Port, SvRegFault, names_differ};
 use std::alloc::Global;
 
-#[tactic(auto, unfolding(cg_busspec::specs::CrossbarModule::crossbar_ports))]
-fn ports_of(alloc: Global, xbar: &XbarDesc, clocks: &[Text]) -> Result<List<Port>, Memory>
-    requires { clocks.now ≡ clocks xbar.now }
-    ensures { IfOk result (λ ports. map port_of ports ≡ crossbar_ports xbar.now) }
+#[tactic(auto, unfolding(cg_busspec::specs::CrossbarModule::crossbar_ports), using(crate::proofs::Graphs::clock_ports_are))]
+fn ports_of(alloc: Global, graph: &Graph) -> Result<List<Port>, Memory>
+    requires { graph.now.clocks ≡ clocks_of graph.now.desc }
+    ensures { IfOk result (λ ports. map port_of ports ≡ crossbar_ports graph.now.desc) }
 {
-    let hosts = hosts(alloc, xbar)?;
-    let devices = devices(alloc, xbar)?;
+    let hosts = hosts(alloc, &graph.desc)?;
+    let devices = devices(alloc, &graph.desc)?;
     let mut ports = List::new(alloc);
-    add_clock_ports(alloc, &mut ports, clocks)?;
-    add_hosts_ports(alloc, &mut ports, xbar, hosts.as_slice())?;
-    add_devices_ports(alloc, &mut ports, xbar, devices.as_slice())?;
+    add_clock_ports(alloc, &mut ports, graph.clocks.as_slice())?;
+    add_hosts_ports(alloc, &mut ports, &graph.desc, hosts.as_slice())?;
+    add_devices_ports(alloc, &mut ports, &graph.desc, devices.as_slice())?;
     Ok(ports)
 }
 
-/// Adds the wires between parts.
-fn add_wires(
-    alloc: Global,
-    entries: &mut List<Entry>,
-    xbar: &XbarDesc,
-    hosts: &[usize],
-    devices: &[usize],
-) -> Result<(), Memory>
-    requires hosts { hosts.now ≡ hosts xbar.now }
-    requires devices { devices.now ≡ devices xbar.now }
-    ensures { OnOk result (map entry_of entries.new ≡ map entry_of entries.old ++ crossbar_wires xbar.now) }
+#[tactic(auto, unfolding(cg_busspec::specs::CrossbarModule::crossbar_entries), using(crate::proofs::Graphs::parts_are))]
+fn entries_of(alloc: Global, graph: &Graph, ranges: &[NodeRanges]) -> Result<List<Entry>, Memory>
+    requires { graph.now.parts ≡ parts_of graph.now.desc }
+    ensures { IfOk result (λ entries. map entry_of entries ≡ crossbar_entries (crossbar_of graph.now.desc ranges.now)) }
 {
-    add_hosts_wires(alloc, entries, xbar, hosts)?;
-    add_hosts_lanes(alloc, entries, xbar, hosts)?;
-    add_devices_wires(alloc, entries, xbar, devices)?;
-    Ok(())
-}
-
-/// Adds a host's parts: its FIFO, if it has one, and its 1-to-N socket.
-fn add_host_parts(
-    alloc: Global,
-    entries: &mut List<Entry>,
-    xbar: &XbarDesc,
-    host: usize,
-) -> Result<(), Memory>
-    ensures { OnOk result (map entry_of entries.new ≡ map entry_of entries.old ++ host_parts xbar.now host) }
-{
-    if has_fifo(xbar, host) {
-        add_host_fifo(alloc, entries, xbar, host)?;
-    }
-    add_host_split(alloc, entries, xbar, host)?;
-    Ok(())
-}
-
-/// Adds those of all hosts.
-fn add_hosts_parts(
-    alloc: Global,
-    entries: &mut List<Entry>,
-    xbar: &XbarDesc,
-    hosts: &[usize],
-) -> Result<(), Memory>
-    ensures { OnOk result (map entry_of entries.new ≡ map entry_of entries.old ++ flat_map (host_parts xbar.now) hosts.now) }
-{
-    for host in hosts {
-        add_host_parts(alloc, entries, xbar, *host)?;
-    }
-    Ok(())
-}
-
-/// Adds a device's parts: its M-to-1 socket and its FIFO, if it has them.
-fn add_device_parts(
-    alloc: Global,
-    entries: &mut List<Entry>,
-    xbar: &XbarDesc,
-    device: usize,
-) -> Result<(), Memory>
-    ensures { OnOk result (map entry_of entries.new ≡ map entry_of entries.old ++ device_parts xbar.now device) }
-{
-    if is_joined(alloc, xbar, device)? {
-        add_device_join(alloc, entries, xbar, device)?;
-    }
-    if has_fifo(xbar, device) {
-        add_device_fifo(alloc, entries, xbar, device)?;
-    }
-    Ok(())
-}
-
-/// Adds those of all devices.
-fn add_devices_parts(
-    alloc: Global,
-    entries: &mut List<Entry>,
-    xbar: &XbarDesc,
-    devices: &[usize],
-) -> Result<(), Memory>
-    ensures { OnOk result (map entry_of entries.new ≡ map entry_of entries.old ++ flat_map (device_parts xbar.now) devices.now) }
-{
-    for device in devices {
-        add_device_parts(alloc, entries, xbar, *device)?;
-    }
-    Ok(())
-}
-
-/// Adds the parts, in the order of hosts and then of devices.
-fn add_parts(
-    alloc: Global,
-    entries: &mut List<Entry>,
-    xbar: &XbarDesc,
-    hosts: &[usize],
-    devices: &[usize],
-) -> Result<(), Memory>
-    requires hosts { hosts.now ≡ hosts xbar.now }
-    requires devices { devices.now ≡ devices xbar.now }
-    ensures { OnOk result (map entry_of entries.new ≡ map entry_of entries.old ++ crossbar_parts xbar.now) }
-{
-    add_hosts_parts(alloc, entries, xbar, hosts)?;
-    add_devices_parts(alloc, entries, xbar, devices)?;
-    Ok(())
-}
-
-#[tactic(auto, unfolding(cg_busspec::specs::CrossbarModule::crossbar_entries))]
-fn entries_of(
-    alloc: Global,
-    xbar: &XbarDesc,
-    ranges: &[NodeRanges],
-) -> Result<List<Entry>, Memory>
-    ensures { IfOk result (λ entries. map entry_of entries ≡ crossbar_entries (crossbar_of xbar.now ranges.now)) }
-{
-    let hosts = hosts(alloc, xbar)?;
-    let devices = devices(alloc, xbar)?;
+    let hosts = hosts(alloc, &graph.desc)?;
+    let devices = devices(alloc, &graph.desc)?;
     let mut entries = List::new(alloc);
-    add_wires(alloc, &mut entries, xbar, hosts.as_slice(), devices.as_slice())?;
-    add_selects(alloc, &mut entries, xbar, ranges, hosts.as_slice())?;
-    add_parts(alloc, &mut entries, xbar, hosts.as_slice(), devices.as_slice())?;
+    add_hosts_wires(alloc, &mut entries, &graph.desc, hosts.as_slice())?;
+    add_hosts_lanes(alloc, &mut entries, &graph.desc, hosts.as_slice())?;
+    add_devices_wires(alloc, &mut entries, &graph.desc, devices.as_slice())?;
+    add_selects(alloc, &mut entries, &graph.desc, ranges, hosts.as_slice())?;
+    add_parts(alloc, &mut entries, &graph.desc, graph.parts.as_slice())?;
     Ok(entries)
 }
 
-/// The module, whose names may clash. `clocks` are the crossbar's, in the order of their first use.
+/// The module, whose names may clash.
 #[tactic(auto, unfolding(cg_busspec::specs::CrossbarModule::crossbar_module))]
-pub fn any_module(
-    alloc: Global,
-    xbar: &XbarDesc,
-    clocks: &[Text],
-    ranges: &[NodeRanges],
-) -> Result<Module, Memory>
-    requires { clocks.now ≡ clocks xbar.now }
-    ensures { IfOk result (λ m. module_of m ≡ crossbar_module (crossbar_of xbar.now ranges.now)) }
+fn any_module(alloc: Global, graph: &Graph, ranges: &[NodeRanges]) -> Result<Module, Memory>
+    requires parts { graph.now.parts ≡ parts_of graph.now.desc }
+    requires clocks { graph.now.clocks ≡ clocks_of graph.now.desc }
+    ensures { IfOk result (λ m. module_of m ≡ crossbar_module (crossbar_of graph.now.desc ranges.now)) }
 {
-    let xbar_name = xbar.name.as_str();
-    let name = format!(in alloc; "xbar_{xbar_name}")?;
-    let ports = ports_of(alloc, xbar, clocks)?;
-    let entries = entries_of(alloc, xbar, ranges)?;
+    let xbar = graph.desc.name.as_str();
+    let name = format!(in alloc; "xbar_{xbar}")?;
+    let ports = ports_of(alloc, graph)?;
+    let entries = entries_of(alloc, graph, ranges)?;
     Ok(Module {
         name: Text::from_string(name),
         ports,
         entries,
     })
+}
+
+/// The module of a crossbar, in which `ranges` are the ranges that count at each of its nodes.
+///
+/// Its entries stand in this order: the links between parts; the selects of the hosts' sockets; the parts. A request of a host
+/// ends at the port of the device that has its address, or in an error. `Clash` has the first name that the module would declare
+/// twice, as where the names of two nodes differ in a dot and two underscores alone.
+pub fn xbar_module(
+    alloc: Global,
+    graph: &Graph,
+    ranges: &List<NodeRanges>,
+) -> Result<Module, SvRegFault>
+    requires valid { IsValidCrossbar graph.now.desc }
+    requires parts { IsParts graph.now.desc graph.now.parts }
+    requires clocks { IsClocks graph.now.desc graph.now.clocks }
+    requires ranges { AreRangesOf graph.now.desc ranges.now }
+    ensures made { IfOk result (λ m. module_of m ≡ crossbar_module (crossbar_of graph.now.desc ranges.now)) }
+    ensures means { IfOk result (λ m. CrossbarMeans (module_of m) graph.now.desc ranges.now) }
+    ensures apart { OnOk result (first_repeat (module_names (crossbar_module (crossbar_of graph.now.desc ranges.now))) ≡ None) }
+    ensures clash { (n : List ℕ) → result ≡ Err (SvRegFault.Clash n) → first_repeat (module_names (crossbar_module (crossbar_of graph.now.desc ranges.now))) ≡ Some n }
+{
+    parts_are_one();
+    clocks_are_one();
+    crossbar_module_means();
+    let made = any_module(alloc, graph, ranges.as_slice())?;
+    names_differ(alloc, &made)?;
+    Ok(made)
 }

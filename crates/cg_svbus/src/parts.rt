@@ -4,7 +4,7 @@ ghost use Rattle.std.specs.Prelude.{◌≡◌, ◌++◌, [], ◌∷◌, IfOk, On
 ghost use Rattle.cg_busspec.specs.Crossbar.{reach, feeders};
 ghost use Rattle.cg_busspec.specs.CrossbarModule.{lane, join_lanes, host_fifo_entry, host_split_entry, device_join_entry, device_fifo_entry};
 ghost use Rattle.cg_sv.specs.Views.{entry_of};
-ghost use Rattle.cg_svbus.specs.Viewed.{link_of};
+ghost use Rattle.cg_svbus.specs.Viewed.{link_of, part_entry};
 
 use crate::instances::{add_fifo, add_join, add_split};
 use crate::links::{Link, joined_link, lane, node_link, pair_link, socket_link};
@@ -12,11 +12,12 @@ use crate::nodes::{clock, feeders, label, reach};
 use crate::selects::select_name;
 use cg_base::{List, Memory};
 use cg_desc::XbarDesc;
+use cg_nodes::Part;
 use cg_sv::Entry;
 use std::alloc::Global;
 
 /// Adds a host's FIFO, from its clock to the crossbar's.
-pub fn add_host_fifo(
+fn add_host_fifo(
     alloc: Global,
     entries: &mut List<Entry>,
     xbar: &XbarDesc,
@@ -46,7 +47,7 @@ fn lanes(alloc: Global, xbar: &XbarDesc, host: usize) -> Result<Vec<Link>, Memor
 }
 
 /// Adds a host's 1-to-N socket.
-pub fn add_host_split(
+fn add_host_split(
     alloc: Global,
     entries: &mut List<Entry>,
     xbar: &XbarDesc,
@@ -78,7 +79,7 @@ fn join_lanes(alloc: Global, xbar: &XbarDesc, device: usize) -> Result<Vec<Link>
 }
 
 /// Adds a device's M-to-1 socket.
-pub fn add_device_join(
+fn add_device_join(
     alloc: Global,
     entries: &mut List<Entry>,
     xbar: &XbarDesc,
@@ -95,7 +96,7 @@ pub fn add_device_join(
 }
 
 /// Adds a device's FIFO, from the crossbar's clock to the device's.
-pub fn add_device_fifo(
+fn add_device_fifo(
     alloc: Global,
     entries: &mut List<Entry>,
     xbar: &XbarDesc,
@@ -109,5 +110,38 @@ pub fn add_device_fifo(
     let to = node_link(alloc, "d_", xbar, device)?;
     let far = clock(xbar, device);
     add_fifo(alloc, entries, &name, xbar.clock.as_str(), far, &from, &to)?;
+    Ok(())
+}
+
+/// Adds a part.
+fn add_part(
+    alloc: Global,
+    entries: &mut List<Entry>,
+    xbar: &XbarDesc,
+    part: Part,
+) -> Result<(), Memory>
+    ensures { OnOk result (map entry_of entries.new ≡ map entry_of entries.old ++ part_entry xbar.now part ∷ []) }
+{
+    match part {
+        Part::HostFifo { host } => add_host_fifo(alloc, entries, xbar, host as usize)?,
+        Part::Split { host } => add_host_split(alloc, entries, xbar, host as usize)?,
+        Part::Join { device } => add_device_join(alloc, entries, xbar, device as usize)?,
+        Part::DeviceFifo { device } => add_device_fifo(alloc, entries, xbar, device as usize)?,
+    }
+    Ok(())
+}
+
+/// Adds the parts, in their order.
+pub fn add_parts(
+    alloc: Global,
+    entries: &mut List<Entry>,
+    xbar: &XbarDesc,
+    parts: &[Part],
+) -> Result<(), Memory>
+    ensures { OnOk result (map entry_of entries.new ≡ map entry_of entries.old ++ map (part_entry xbar.now) parts.now) }
+{
+    for part in parts {
+        add_part(alloc, entries, xbar, *part)?;
+    }
     Ok(())
 }
