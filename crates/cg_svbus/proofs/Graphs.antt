@@ -10,7 +10,7 @@ use Rattle.cg_desc.specs.Crossbar.{NodeIs, IsHost, IsDevice}
 use Rattle.cg_desc.specs.declared.crossbar.NodeDesc.{NodeDesc}
 use Rattle.cg_desc.specs.declared.crossbar.XbarDesc.{XbarDesc}
 use Rattle.cg_busspec.specs.Crossbar as bus
-use Rattle.cg_busspec.specs.CrossbarModule as bus
+use Rattle.cg_busspec.specs.CrossbarModule as written
 use Rattle.cg_busspec.proofs.Described.{host_is, device_is, node_is}
 use Rattle.cg_nodes.specs.Listed.{numbers_of, hosts_of, devices_of, connects, feeders_of, has_fifo, has_join, host_parts, device_parts, parts_of, new_names, clocks_of}
 use Rattle.cg_nodes.specs.declared.parts.Part.{Part}
@@ -34,22 +34,22 @@ devices_are x = numbers_are false 0 x.nodes
 
 -- ---- clocks
 
-new_are : (seen : List (List ℕ)) (ns : List NodeDesc) → new_names seen (map (λ n. n.clock) ns) ≡ bus.new_clocks seen ns
+new_are : (seen : List (List ℕ)) (ns : List NodeDesc) → new_names seen (map (λ n. n.clock) ns) ≡ written.new_clocks seen ns
 unfolding new_names
 new_are seen [] = refl
 new_are seen (n ∷ ns) = by (is_among seen n.clock) (new_are seen ns) (new_are (n.clock ∷ seen) ns) where
-  by : (b : Bool) → new_names seen (map (λ n. n.clock) ns) ≡ bus.new_clocks seen ns → new_names (n.clock ∷ seen) (map (λ n. n.clock) ns) ≡ bus.new_clocks (n.clock ∷ seen) ns
-      → cond b (new_names seen (map (λ n. n.clock) ns)) (n.clock ∷ new_names (n.clock ∷ seen) (map (λ n. n.clock) ns)) ≡ cond b (bus.new_clocks seen ns) (n.clock ∷ bus.new_clocks (n.clock ∷ seen) ns)
+  by : (b : Bool) → new_names seen (map (λ n. n.clock) ns) ≡ written.new_clocks seen ns → new_names (n.clock ∷ seen) (map (λ n. n.clock) ns) ≡ written.new_clocks (n.clock ∷ seen) ns
+      → cond b (new_names seen (map (λ n. n.clock) ns)) (n.clock ∷ new_names (n.clock ∷ seen) (map (λ n. n.clock) ns)) ≡ cond b (written.new_clocks seen ns) (n.clock ∷ written.new_clocks (n.clock ∷ seen) ns)
   by true old new = old
   by false old new = ap (λ z. n.clock ∷ z) new
 
-clocks_are : (x : XbarDesc) → clocks_of x ≡ bus.clocks x
-unfolding clocks_of new_names bus.clocks
+clocks_are : (x : XbarDesc) → clocks_of x ≡ written.clocks x
+unfolding clocks_of new_names written.clocks
 clocks_are x = ap (λ z. x.clock ∷ z) (new_are (x.clock ∷ []) x.nodes)
 
 -- the ports of the clocks
-pub clock_ports_are : (x : XbarDesc) (clocks : List (List ℕ)) → clocks ≡ clocks_of x → map bus.clock_port clocks ≡ map bus.clock_port (bus.clocks x)
-clock_ports_are x clocks e = ap (map bus.clock_port) (e ∙ clocks_are x)
+pub clock_ports_are : (x : XbarDesc) (clocks : List (List ℕ)) → clocks ≡ clocks_of x → map written.clock_port clocks ≡ map written.clock_port (written.clocks x)
+clock_ports_are x clocks e = ap (map written.clock_port) (e ∙ clocks_are x)
 
 -- ---- parts at one node
 
@@ -93,28 +93,28 @@ map_flat : {A B : Type 0} (f : A → B) (g : ℕ → List A) (is : List ℕ) →
 map_flat f g [] = refl
 map_flat f g (i ∷ is) = map_join f (g i) (flat_map g is) ∙ ap (λ z. map f (g i) ++ z) (map_flat f g is)
 
-host_parts_are : (x : XbarDesc) (h : ℕ) → Among h (bus.hosts x) → map (part_entry x) (host_parts x h) ≡ bus.host_parts x h
+host_parts_are : (x : XbarDesc) (h : ℕ) → Among h (bus.hosts x) → map (part_entry x) (host_parts x h) ≡ written.host_parts x h
 unfolding host_parts
 host_parts_are x h a = let is = host_is x h a in rw (fifo_is x h is.0 is.1) (by (bus.has_fifo x h)) where
-  by : (b : Bool) → map (part_entry x) (cond b (HostFifo h ∷ []) [] ++ (Split h ∷ [])) ≡ bus.entries_if b (bus.host_fifo_entry x h ∷ []) ++ (bus.host_split_entry x h ∷ [])
+  by : (b : Bool) → map (part_entry x) (cond b (HostFifo h ∷ []) [] ++ (Split h ∷ [])) ≡ written.entries_if b (written.host_fifo_entry x h ∷ []) ++ (written.host_split_entry x h ∷ [])
   by true = refl
   by false = refl
 
-device_parts_are : (x : XbarDesc) (d : ℕ) → Among d (bus.devices x) → map (part_entry x) (device_parts x d) ≡ bus.device_parts x d
+device_parts_are : (x : XbarDesc) (d : ℕ) → Among d (bus.devices x) → map (part_entry x) (device_parts x d) ≡ written.device_parts x d
 unfolding device_parts
 device_parts_are x d a = let is = device_is x d a in rw (fifo_is x d is.0 is.1, join_is x d) (by (bus.is_joined x d) (bus.has_fifo x d)) where
-  by : (b c : Bool) → map (part_entry x) (cond b (Join d ∷ []) [] ++ cond c (DeviceFifo d ∷ []) []) ≡ bus.entries_if b (bus.device_join_entry x d ∷ []) ++ bus.entries_if c (bus.device_fifo_entry x d ∷ [])
+  by : (b c : Bool) → map (part_entry x) (cond b (Join d ∷ []) [] ++ cond c (DeviceFifo d ∷ []) []) ≡ written.entries_if b (written.device_join_entry x d ∷ []) ++ written.entries_if c (written.device_fifo_entry x d ∷ [])
   by true true = refl
   by true false = refl
   by false true = refl
   by false false = refl
 
 -- the entries of the parts
-pub parts_are : (x : XbarDesc) (parts : List Part) → parts ≡ parts_of x → map (part_entry x) parts ≡ bus.crossbar_parts x
+pub parts_are : (x : XbarDesc) (parts : List Part) → parts ≡ parts_of x → map (part_entry x) parts ≡ written.crossbar_parts x
 unfolding parts_of
 parts_are x parts e =
     ap (map (part_entry x)) e ∙ map_join (part_entry x) (flat_map (host_parts x) (hosts_of x)) (flat_map (device_parts x) (devices_of x))
     ∙ ap (λ z. z ++ map (part_entry x) (flat_map (device_parts x) (devices_of x)))
-    (map_flat (part_entry x) (host_parts x) (hosts_of x) ∙ ap (flat_map (λ h. map (part_entry x) (host_parts x h))) (hosts_are x) ∙ flat_same _ (bus.host_parts x) (bus.hosts x) (host_parts_are x))
-    ∙ ap (λ z. flat_map (bus.host_parts x) (bus.hosts x) ++ z)
-    (map_flat (part_entry x) (device_parts x) (devices_of x) ∙ ap (flat_map (λ d. map (part_entry x) (device_parts x d))) (devices_are x) ∙ flat_same _ (bus.device_parts x) (bus.devices x) (device_parts_are x))
+    (map_flat (part_entry x) (host_parts x) (hosts_of x) ∙ ap (flat_map (λ h. map (part_entry x) (host_parts x h))) (hosts_are x) ∙ flat_same _ (written.host_parts x) (bus.hosts x) (host_parts_are x))
+    ∙ ap (λ z. flat_map (written.host_parts x) (bus.hosts x) ++ z)
+    (map_flat (part_entry x) (device_parts x) (devices_of x) ∙ ap (flat_map (λ d. map (part_entry x) (device_parts x d))) (devices_are x) ∙ flat_same _ (written.device_parts x) (bus.devices x) (device_parts_are x))

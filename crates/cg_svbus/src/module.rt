@@ -5,7 +5,7 @@ ghost use Rattle.cg_svspec.specs.Names.{module_names, first_repeat};
 ghost use Rattle.cg_desc.specs.Crossbar.{IsValidCrossbar};
 ghost use Rattle.cg_busspec.specs.Crossbar.{crossbar_of};
 ghost use Rattle.cg_busspec.specs.CrossbarMeaning.{CrossbarMeans};
-ghost use Rattle.cg_busspec.specs.CrossbarModule.{crossbar_ports, crossbar_entries, crossbar_module};
+ghost use Rattle.cg_busspec.specs.CrossbarModule.{clocks, clock_port, crossbar_ports, crossbar_parts, crossbar_entries, crossbar_module};
 ghost use Rattle.cg_busspec.specs.Ranges.{AreRangesOf};
 ghost use Rattle.cg_nodes.specs.Parts.{IsParts};
 ghost use Rattle.cg_nodes.specs.Clocks.{IsClocks};
@@ -13,11 +13,10 @@ ghost use Rattle.cg_nodes.specs.Listed.{parts_of, clocks_of};
 ghost use Rattle.cg_sv.specs.Views.{module_of, port_of, entry_of};
 ghost use Rattle.cg_sv.specs.declared.fault.SvRegFault.TheVariants as SvRegFault;
 
-use crate::nodes::{devices, hosts};
 use crate::parts::add_parts;
 use crate::ports::{add_clock_ports, add_devices_ports, add_hosts_ports};
 use crate::selects::add_selects;
-use crate::wires::{add_devices_wires, add_hosts_lanes, add_hosts_wires};
+use crate::wires::add_wires;
 use cg_base::{List, Memory, Text};
 use cg_busspec::crossbar_module_means;
 use cg_desc::NodeRanges;
@@ -25,33 +24,51 @@ use cg_nodes::{Graph, clocks_are_one, parts_are_one};
 use cg_sv::{Entry, Module, Port, SvRegFault, names_differ};
 use std::alloc::Global;
 
-#[tactic(auto, unfolding(cg_busspec::specs::CrossbarModule::crossbar_ports), using(crate::proofs::Graphs::clock_ports_are))]
+/// Adds a port for each clock.
+#[tactic(auto, using(crate::proofs::Graphs::clock_ports_are))]
+fn add_clocks(alloc: Global, ports: &mut List<Port>, graph: &Graph) -> Result<(), Memory>
+    requires { graph.now.clocks ≡ clocks_of graph.now.desc }
+    ensures { OnOk result (map port_of ports.new ≡ map port_of ports.old ++ map clock_port (clocks graph.now.desc)) }
+{
+    add_clock_ports(alloc, ports, graph.clocks.as_slice())?;
+    Ok(())
+}
+
+#[tactic(auto, unfolding(cg_busspec::specs::CrossbarModule::crossbar_ports))]
 fn ports_of(alloc: Global, graph: &Graph) -> Result<List<Port>, Memory>
     requires { graph.now.clocks ≡ clocks_of graph.now.desc }
     ensures { IfOk result (λ ports. map port_of ports ≡ crossbar_ports graph.now.desc) }
 {
-    let hosts = hosts(alloc, &graph.desc)?;
-    let devices = devices(alloc, &graph.desc)?;
     let mut ports = List::new(alloc);
-    add_clock_ports(alloc, &mut ports, graph.clocks.as_slice())?;
-    add_hosts_ports(alloc, &mut ports, &graph.desc, hosts.as_slice())?;
-    add_devices_ports(alloc, &mut ports, &graph.desc, devices.as_slice())?;
+    add_clocks(alloc, &mut ports, graph)?;
+    add_hosts_ports(alloc, &mut ports, &graph.desc)?;
+    add_devices_ports(alloc, &mut ports, &graph.desc)?;
     Ok(ports)
 }
 
-#[tactic(auto, unfolding(cg_busspec::specs::CrossbarModule::crossbar_entries), using(crate::proofs::Graphs::parts_are))]
+/// Adds the parts, in the order in which the graph has them.
+#[tactic(auto, using(crate::proofs::Graphs::parts_are))]
+fn add_graph_parts(
+    alloc: Global,
+    entries: &mut List<Entry>,
+    graph: &Graph,
+) -> Result<(), Memory>
+    requires { graph.now.parts ≡ parts_of graph.now.desc }
+    ensures { OnOk result (map entry_of entries.new ≡ map entry_of entries.old ++ crossbar_parts graph.now.desc) }
+{
+    add_parts(alloc, entries, &graph.desc, graph.parts.as_slice())?;
+    Ok(())
+}
+
+#[tactic(auto, unfolding(cg_busspec::specs::CrossbarModule::crossbar_entries))]
 fn entries_of(alloc: Global, graph: &Graph, ranges: &[NodeRanges]) -> Result<List<Entry>, Memory>
     requires { graph.now.parts ≡ parts_of graph.now.desc }
     ensures { IfOk result (λ entries. map entry_of entries ≡ crossbar_entries (crossbar_of graph.now.desc ranges.now)) }
 {
-    let hosts = hosts(alloc, &graph.desc)?;
-    let devices = devices(alloc, &graph.desc)?;
     let mut entries = List::new(alloc);
-    add_hosts_wires(alloc, &mut entries, &graph.desc, hosts.as_slice())?;
-    add_hosts_lanes(alloc, &mut entries, &graph.desc, hosts.as_slice())?;
-    add_devices_wires(alloc, &mut entries, &graph.desc, devices.as_slice())?;
-    add_selects(alloc, &mut entries, &graph.desc, ranges, hosts.as_slice())?;
-    add_parts(alloc, &mut entries, &graph.desc, graph.parts.as_slice())?;
+    add_wires(alloc, &mut entries, &graph.desc)?;
+    add_selects(alloc, &mut entries, &graph.desc, ranges)?;
+    add_graph_parts(alloc, &mut entries, graph)?;
     Ok(entries)
 }
 

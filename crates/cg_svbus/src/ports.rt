@@ -1,10 +1,12 @@
 //! The ports of a crossbar's module.
 
 ghost use Rattle.std.specs.Prelude.{◌≡◌, ◌++◌, OnOk, map, flat_map};
+ghost use Rattle.cg_busspec.specs.Crossbar.{hosts, devices};
 ghost use Rattle.cg_busspec.specs.CrossbarModule.{clock_port, host_ports, device_ports};
 ghost use Rattle.cg_sv.specs.Views.{port_of};
 
 use crate::links::node_link;
+use crate::nodes::{devices, hosts};
 use cg_base::{List, Memory, Text};
 use cg_desc::XbarDesc;
 use cg_sv::{Port, make};
@@ -46,11 +48,11 @@ pub fn add_hosts_ports(
     alloc: Global,
     ports: &mut List<Port>,
     xbar: &XbarDesc,
-    hosts: &[usize],
 ) -> Result<(), Memory>
-    ensures { OnOk result (map port_of ports.new ≡ map port_of ports.old ++ flat_map (host_ports xbar.now) hosts.now) }
+    ensures { OnOk result (map port_of ports.new ≡ map port_of ports.old ++ flat_map (host_ports xbar.now) (hosts xbar.now)) }
 {
-    for host in hosts {
+    let hosts = hosts(alloc, xbar)?;
+    for host in hosts.iter() {
         add_host_ports(alloc, ports, xbar, *host)?;
     }
     Ok(())
@@ -76,11 +78,11 @@ pub fn add_devices_ports(
     alloc: Global,
     ports: &mut List<Port>,
     xbar: &XbarDesc,
-    devices: &[usize],
 ) -> Result<(), Memory>
-    ensures { OnOk result (map port_of ports.new ≡ map port_of ports.old ++ flat_map (device_ports xbar.now) devices.now) }
+    ensures { OnOk result (map port_of ports.new ≡ map port_of ports.old ++ flat_map (device_ports xbar.now) (devices xbar.now)) }
 {
-    for device in devices {
+    let devices = devices(alloc, xbar)?;
+    for device in devices.iter() {
         add_device_ports(alloc, ports, xbar, *device)?;
     }
     Ok(())

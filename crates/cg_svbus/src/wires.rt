@@ -1,13 +1,13 @@
 //! The links between the parts of a crossbar.
 
 ghost use Rattle.std.specs.Prelude.{◌≡◌, ◌++◌, OnOk, map, flat_map};
-ghost use Rattle.cg_busspec.specs.Crossbar.{reach};
-ghost use Rattle.cg_busspec.specs.CrossbarModule.{link_wires, host_wires, lane_wires, host_lanes, device_wires};
+ghost use Rattle.cg_busspec.specs.Crossbar.{reach, hosts, devices};
+ghost use Rattle.cg_busspec.specs.CrossbarModule.{link_wires, host_wires, lane_wires, host_lanes, device_wires, crossbar_wires};
 ghost use Rattle.cg_sv.specs.Views.{entry_of};
 ghost use Rattle.cg_svbus.specs.Viewed.{link_of};
 
 use crate::links::{Link, node_link, pair_link};
-use crate::nodes::{has_fifo, is_joined, reach};
+use crate::nodes::{devices, has_fifo, hosts, is_joined, reach};
 use cg_base::{List, Memory};
 use cg_desc::XbarDesc;
 use cg_sv::{Entry, make};
@@ -39,15 +39,15 @@ fn add_host_wires(
 }
 
 /// Adds those of all hosts.
-pub fn add_hosts_wires(
+fn add_hosts_wires(
     alloc: Global,
     entries: &mut List<Entry>,
     xbar: &XbarDesc,
-    hosts: &[usize],
 ) -> Result<(), Memory>
-    ensures { OnOk result (map entry_of entries.new ≡ map entry_of entries.old ++ flat_map (host_wires xbar.now) hosts.now) }
+    ensures { OnOk result (map entry_of entries.new ≡ map entry_of entries.old ++ flat_map (host_wires xbar.now) (hosts xbar.now)) }
 {
-    for host in hosts {
+    let hosts = hosts(alloc, xbar)?;
+    for host in hosts.iter() {
         add_host_wires(alloc, entries, xbar, *host)?;
     }
     Ok(())
@@ -86,15 +86,15 @@ fn add_host_lanes(
 }
 
 /// Adds those of all hosts.
-pub fn add_hosts_lanes(
+fn add_hosts_lanes(
     alloc: Global,
     entries: &mut List<Entry>,
     xbar: &XbarDesc,
-    hosts: &[usize],
 ) -> Result<(), Memory>
-    ensures { OnOk result (map entry_of entries.new ≡ map entry_of entries.old ++ flat_map (host_lanes xbar.now) hosts.now) }
+    ensures { OnOk result (map entry_of entries.new ≡ map entry_of entries.old ++ flat_map (host_lanes xbar.now) (hosts xbar.now)) }
 {
-    for host in hosts {
+    let hosts = hosts(alloc, xbar)?;
+    for host in hosts.iter() {
         add_host_lanes(alloc, entries, xbar, *host)?;
     }
     Ok(())
@@ -117,16 +117,30 @@ fn add_device_wires(
 }
 
 /// Adds those of all devices.
-pub fn add_devices_wires(
+fn add_devices_wires(
     alloc: Global,
     entries: &mut List<Entry>,
     xbar: &XbarDesc,
-    devices: &[usize],
 ) -> Result<(), Memory>
-    ensures { OnOk result (map entry_of entries.new ≡ map entry_of entries.old ++ flat_map (device_wires xbar.now) devices.now) }
+    ensures { OnOk result (map entry_of entries.new ≡ map entry_of entries.old ++ flat_map (device_wires xbar.now) (devices xbar.now)) }
 {
-    for device in devices {
+    let devices = devices(alloc, xbar)?;
+    for device in devices.iter() {
         add_device_wires(alloc, entries, xbar, *device)?;
     }
+    Ok(())
+}
+
+/// Adds all links between parts.
+pub fn add_wires(
+    alloc: Global,
+    entries: &mut List<Entry>,
+    xbar: &XbarDesc,
+) -> Result<(), Memory>
+    ensures { OnOk result (map entry_of entries.new ≡ map entry_of entries.old ++ crossbar_wires xbar.now) }
+{
+    add_hosts_wires(alloc, entries, xbar)?;
+    add_hosts_lanes(alloc, entries, xbar)?;
+    add_devices_wires(alloc, entries, xbar)?;
     Ok(())
 }
