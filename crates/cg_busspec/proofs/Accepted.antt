@@ -15,6 +15,7 @@ use Rattle.cg_busspec.specs.Crossbar.{Crossbar, crossbar_of, device_ranges, node
 use Rattle.cg_busspec.specs.Ranges.{RangeHolds, RangesAre, HasAddress, IsRange, AreRangesOf}
 use Rattle.cg_busspec.proofs.Good.{Once, IsNode, IsCrossbar, is_node_character}
 use Rattle.cg_busspec.proofs.Described.{among_at, once_by_places, host_is, device_is, device_has, reach_is, connects_is, connects_host, connects_has, has_ranges, node_ranges, has_address}
+use Rattle.cg_busspec.proofs.Members.{one_of_all}
 use Rattle.cg_busspec.proofs.Places.{feeder_has}
 use Rattle.cg_busspec.proofs.Sums.{at_most_below}
 
@@ -28,6 +29,7 @@ name_each n s = word_characters n s.0.0
 plain_character : (c : ℕ) → is_name_character c ≡ true → is_node_character c ≡ true
 plain_character c e = rw e refl
 
+-- or of two names joined by a dot
 node_name_each : (n : List ℕ) → IsNodeName n → Each is_node_character n
 node_name_each n (inl s) = each_weaker is_name_character is_node_character plain_character n (name_each n s)
 node_name_each n (inr s) =
@@ -44,17 +46,14 @@ nodes_named (n ∷ ns) valid =
 
 -- ---- lists with members
 
+-- a list with a member is not empty
 some_of : {A : Type 0} (xs : List A) (x : A) → Among x xs → IsSomeOf xs
 some_of [] x a = absurd a
 some_of (y ∷ ys) x a = tt
 
 -- ---- the ranges of a device are few
 
-all_at : {A : Type 0} (P : A → Type 0) (xs : List A) (x : A) → AllOf P xs → Among x xs → P x
-all_at P [] x all a = absurd a
-all_at P (y ∷ ys) x all (inl e) = subst P (sym e) all.0
-all_at P (y ∷ ys) x all (inr a) = all_at P ys x all.1 a
-
+-- where ranges begin
 abbrev bases : List Range → List ℕ
 bases rs = map (λ r. r.base) rs
 
@@ -64,6 +63,7 @@ base_at [] i b e = cc
 base_at (r ∷ rs) zero b e = (r, refl, cc)
 base_at (r ∷ rs) (suc i) b e = base_at rs i b e
 
+-- or of a range among them
 base_of : (rs : List Range) (b : ℕ) → Among b (bases rs) → (r : Range) × Among r rs × (b ≡ r.base)
 base_of [] b a = absurd a
 base_of (r ∷ rs) b (inl e) = (r, inl refl, e)
@@ -77,6 +77,7 @@ four r g = let least : 2 ^ 2 ≤ 2 ^ g.power = pow_mono g.some in omega (arith, 
 holds_base : (r : Range) (b : ℕ) → IsRange r → b ≡ r.base → RangeHolds r b
 holds_base r b g e = (omega (arith, e), omega (arith, e, four r g))
 
+-- ranges that share no address are few
 few_ranges : (rs : List Range) → AllOf IsRange rs
     → ((i j a : ℕ) (r s : Range) → slice_get rs i ≡ Some r → slice_get rs j ≡ Some s → RangeHolds r a → RangeHolds s a → i ≡ j) → length rs < 2 ^ 32
 few_ranges rs good differ = omega (arith, at_most_below (2 ^ 32 - 3) (bases rs) once below, bases_long rs) where
@@ -87,12 +88,12 @@ few_ranges rs good differ = omega (arith, at_most_below (2 ^ 32 - 3) (bases rs) 
   once : Once (bases rs)
   once = once_by_places (bases rs) (λ i j b p q. by i j b (base_at rs i b p) (base_at rs j b q)) where
     by : (i j b : ℕ) → (r : Range) × (slice_get rs i ≡ Some r) × (b ≡ r.base) → (s : Range) × (slice_get rs j ≡ Some s) × (b ≡ s.base) → i ≡ j
-    by i j b p q = differ i j b p.0 q.0 p.1 q.1 (holds_base p.0 b (all_at IsRange rs p.0 good (among_at rs i p.0 p.1)) p.2) (holds_base q.0 b (all_at IsRange rs q.0 good (among_at rs j q.0 q.1)) q.2)
+    by i j b p q = differ i j b p.0 q.0 p.1 q.1 (holds_base p.0 b (one_of_all IsRange rs p.0 good (among_at rs i p.0 p.1)) p.2) (holds_base q.0 b (one_of_all IsRange rs q.0 good (among_at rs j q.0 q.1)) q.2)
 
   below : (b : ℕ) → Among b (bases rs) → b < 2 ^ 32 - 3
   below b a =
       let found = base_of rs b a in
-      let is = all_at IsRange rs found.0 good found.1 in
+      let is = one_of_all IsRange rs found.0 good found.1 in
       omega (arith, found.2, four found.0 is, is.ends)
 
 -- ---- the whole

@@ -22,9 +22,11 @@ use Rattle.cg_busspec.proofs.Sums.{total, count_if, total_same, total_sum, total
 abbrev drives : List ℕ → List (List ℕ) → List Entry → ℕ
 drives n ins es = count n (assigned_of es) + count n (instance_driven ins es)
 
+-- the plain wires that they declare
 abbrev plains : List ℕ → List Entry → ℕ
 plains n es = count n (plain_of es)
 
+-- both add up over lists
 drives_join : (n : List ℕ) (ins : List (List ℕ)) (xs ys : List Entry) → drives n ins (xs ++ ys) ≡ drives n ins xs + drives n ins ys
 drives_join n ins [] ys = omega arith
 drives_join n ins (wire w m ∷ xs) ys = drives_join n ins xs ys
@@ -33,6 +35,7 @@ drives_join n ins (assign m x ∷ xs) ys = omega (arith, drives_join n ins xs ys
 drives_join n ins (inst p ps m cs ∷ xs) ys =
     omega (arith, drives_join n ins xs ys, count-append n (driven_by_connections ins p cs) (instance_driven ins (xs ++ ys)), count-append n (driven_by_connections ins p cs) (instance_driven ins xs))
 
+-- of plain wires
 plains_join : (n : List ℕ) (xs ys : List Entry) → plains n (xs ++ ys) ≡ plains n xs + plains n ys
 plains_join n [] ys = omega arith
 plains_join n (wire w m ∷ xs) ys = omega (arith, plains_join n xs ys)
@@ -40,30 +43,37 @@ plains_join n (drive w m x ∷ xs) ys = plains_join n xs ys
 plains_join n (assign m x ∷ xs) ys = plains_join n xs ys
 plains_join n (inst p ps m cs ∷ xs) ys = plains_join n xs ys
 
+-- over numbers
 drives_flat : (n : List ℕ) (ins : List (List ℕ)) (f : ℕ → List Entry) (is : List ℕ) → drives n ins (flat_map f is) ≡ total (λ i. drives n ins (f i)) is
 drives_flat n ins f [] = omega arith
 drives_flat n ins f (i ∷ is) = omega (arith, drives_join n ins (f i) (flat_map f is), drives_flat n ins f is)
 
+-- of plain wires
 plains_flat : (n : List ℕ) (f : ℕ → List Entry) (is : List ℕ) → plains n (flat_map f is) ≡ total (λ i. plains n (f i)) is
 plains_flat n f [] = omega arith
 plains_flat n f (i ∷ is) = omega (arith, plains_join n (f i) (flat_map f is), plains_flat n f is)
 
+-- where a test holds
 drives_if : (n : List ℕ) (ins : List (List ℕ)) (b : Bool) (es : List Entry) → drives n ins (entries_if b es) ≡ count_if b (drives n ins es)
 drives_if n ins true es = refl
 drives_if n ins false es = omega arith
 
+-- of plain wires
 plains_if : (n : List ℕ) (b : Bool) (es : List Entry) → plains n (entries_if b es) ≡ count_if b (plains n es)
 plains_if n true es = refl
 plains_if n false es = refl
 
+-- outputs add up over numbers
 outputs_flat : (n : List ℕ) (f : ℕ → List Port) (is : List ℕ) → count n (outputs_of (flat_map f is)) ≡ total (λ i. count n (outputs_of (f i))) is
 outputs_flat n f [] = refl
 outputs_flat n f (i ∷ is) = ap (count n) (outputs_join (f i) (flat_map f is)) ∙ omega (arith, count-append n (outputs_of (f i)) (outputs_of (flat_map f is)), outputs_flat n f is)
 
+-- clocks are no outputs
 no_outputs : (cs : List (List ℕ)) → outputs_of (map clock_port cs) ≡ []
 no_outputs [] = refl
 no_outputs (c ∷ cs) = no_outputs cs
 
+-- a list in the reverse order has the same counts
 count_reverse : (n : List ℕ) (xs : List (List ℕ)) → count n (reverse xs) ≡ count n xs
 count_reverse n [] = refl
 count_reverse n (x ∷ xs) = ap (count n) (reverse-append (x ∷ []) xs) ∙ omega (arith, count-append n (reverse xs) (x ∷ []), count_reverse n xs)
@@ -72,25 +82,30 @@ count_reverse n (x ∷ xs) = ap (count n) (reverse-append (x ∷ []) xs) ∙ ome
 abbrev at : List ℕ → List ℕ → ℕ
 at n m = one_if (bytes_eq n m)
 
+-- requests are counted number by number
 count_requests : (n : List ℕ) (f : ℕ → Link) (is : List ℕ) → count n (requests (map f is)) ≡ total (λ i. at n (f i).request) is
 count_requests n f [] = refl
 count_requests n f (i ∷ is) = omega (arith, count_requests n f is)
 
+-- so are responses
 count_responses : (n : List ℕ) (f : ℕ → Link) (is : List ℕ) → count n (responses (map f is)) ≡ total (λ i. at n (f i).response) is
 count_responses n f [] = refl
 count_responses n f (i ∷ is) = omega (arith, count_responses n f is)
 
 -- ---- parts
 
+-- a FIFO drives its response and its request
 fifo_drives : (n : List ℕ) (ins : List (List ℕ)) (name near far : List ℕ) (a b : Link) → drives n ins (fifo_instance name near far a b ∷ []) ≡ at n a.response + at n b.request
 unfolding fifo_instance
 fifo_drives n ins name near far a b = omega arith
 
+-- a 1-to-N socket its response and its requests
 split_drives : (n : List ℕ) (ins : List (List ℕ)) (name clock s : List ℕ) (a : Link) (bs : List Link) → drives n ins (split_instance name clock s a bs ∷ []) ≡ at n a.response + count n (requests bs)
 unfolding split_instance
 split_drives n ins name clock s a bs =
     rw (bundle_drives (requests bs)) (omega (arith, count-append n (reverse (requests bs) ++ []) [], count-append n (reverse (requests bs)) [], count_reverse n (requests bs)))
 
+-- an M-to-1 socket its responses and its request
 join_drives : (n : List ℕ) (ins : List (List ℕ)) (name clock : List ℕ) (ls : List Link) (b : Link) → drives n ins (join_instance name clock ls b ∷ []) ≡ count n (responses ls) + at n b.request
 unfolding join_instance
 join_drives n ins name clock ls b =
@@ -138,10 +153,12 @@ one_feeder f (i ∷ (j ∷ js)) some few = absurd (omega (arith, less js few)) w
   less : (js : List ℕ) → leb 2 (suc (suc (length js))) ≡ false → suc (suc (length js)) < 2
   less js e = grind (arith, nat_tests)
 
+-- a sum of zeros
 no_lanes : (is : List ℕ) → total (λ h. 0) is ≡ 0
 no_lanes [] = refl
 no_lanes (i ∷ is) = omega (arith, no_lanes is)
 
+-- what a device's parts ask on
 device_request : (x : Crossbar) (d : ℕ) (n : List ℕ) → at n (joined_link x.desc d).request + count_if (has_fifo x.desc d) (at n (m_link x.desc d).response + at n (d_link x.desc d).request)
     ≡ count_if (has_fifo x.desc d) (at n (m_link x.desc d).request + at n (m_link x.desc d).response) + at n (d_link x.desc d).request
 unfolding joined_link
@@ -151,6 +168,7 @@ device_request x d n = by (has_fifo x.desc d) where
   by true = omega arith
   by false = omega arith
 
+-- a device's parts drive its links and its port
 device_balance : (x : Crossbar) (d : ℕ) (n : List ℕ) → IsSomeOf (feeders x.desc d)
     → total (λ h. at n (lane x.desc h d).request) (feeders x.desc d)
     + (count_if (is_joined x.desc d) (total (λ h. at n (l_link x.desc h d).response) (feeders x.desc d) + at n (joined_link x.desc d).request) + count_if (has_fifo x.desc d) (at n (m_link x.desc d).response + at n (d_link x.desc d).request))
@@ -172,10 +190,12 @@ selects_drive : (x : Crossbar) (n : List ℕ) (ins : List (List ℕ)) (hs : List
 selects_drive x n ins [] = refl
 selects_drive x n ins (h ∷ hs) = selects_drive x n ins hs
 
+-- selects are no plain wires
 selects_plain : (x : Crossbar) (n : List ℕ) (hs : List ℕ) → plains n (map (host_select x) hs) ≡ 0
 selects_plain x n [] = refl
 selects_plain x n (h ∷ hs) = selects_plain x n hs
 
+-- wires drive nothing
 wires_drive : (x : Crossbar) (n : List ℕ) (ins : List (List ℕ)) → drives n ins (crossbar_wires x.desc) ≡ 0
 wires_drive x n ins =
     omega (
@@ -193,6 +213,7 @@ wires_drive x n ins =
       none : (f : ℕ → List Entry) (is : List ℕ) → ((i : ℕ) → drives n ins (f i) ≡ 0) → drives n ins (flat_map f is) ≡ 0
       none f is zero_each = drives_flat n ins f is ∙ total_same (λ i. drives n ins (f i)) (λ i. 0) is (λ i m. zero_each i) ∙ no_lanes is
 
+-- parts declare nothing
 parts_plain : (x : Crossbar) (n : List ℕ) → plains n (crossbar_parts x.desc) ≡ 0
 unfolding fifo_instance split_instance join_instance
 parts_plain x n =

@@ -112,6 +112,7 @@ pub host_is : (x : XbarDesc) (h : ℕ) → Among h (hosts x) → IsHost x h
 unfolding hosts
 host_is x h a = let found = number_is true 0 x.nodes h a in let plain : found.0 ≡ h = omega (arith, found.1) in (found.2, subst (λ z. slice_get x.nodes z ≡ Some found.2) plain found.3, found.4)
 
+-- and back
 pub host_has : (x : XbarDesc) (h : ℕ) (n : NodeDesc) → NodeIs x h n → n.host ≡ true → Among h (hosts x)
 unfolding hosts
 host_has x h n e is = subst (λ z. Among z (numbers_of true 0 x.nodes)) (from_zero h) (number_has true 0 x.nodes h n e is)
@@ -121,6 +122,7 @@ pub device_is : (x : XbarDesc) (d : ℕ) → Among d (devices x) → IsDevice x 
 unfolding devices
 device_is x d a = let found = number_is false 0 x.nodes d a in let plain : found.0 ≡ d = omega (arith, found.1) in (found.2, subst (λ z. slice_get x.nodes z ≡ Some found.2) plain found.3, found.4)
 
+-- and back
 pub device_has : (x : XbarDesc) (d : ℕ) → IsDevice x d → Among d (devices x)
 unfolding devices
 device_has x d is = subst (λ z. Among z (numbers_of false 0 x.nodes)) (from_zero d) (number_has false 0 x.nodes d is.0 is.1 is.2)
@@ -130,12 +132,15 @@ pub reach_is : (x : XbarDesc) (h : ℕ) (n : NodeDesc) → NodeIs x h n → reac
 unfolding reach
 reach_is x h n e = ap (λ z. z.to) (node_is x h n e)
 
+-- who connects
 pub connects_is : (x : XbarDesc) (h d : ℕ) → Among h (hosts x) → Among d (reach x h) → Connects x h d
 connects_is x h d i j = let is = host_is x h i in (is.0, is.1, is.2, subst (Among d) (reach_is x h is.0 is.1) j)
 
+-- is a host
 pub connects_host : (x : XbarDesc) (h d : ℕ) → Connects x h d → Among h (hosts x)
 connects_host x h d c = host_has x h c.0 c.1 c.2
 
+-- and has the device
 pub connects_has : (x : XbarDesc) (h d : ℕ) → Connects x h d → Among d (reach x h)
 connects_has x h d c = subst (Among d) (sym (reach_is x h c.0 c.1)) c.3
 
@@ -166,6 +171,7 @@ has_ranges x ranges d long is = place_in x.nodes ranges d is.0 long is.1
 holds_tells : (a : ℕ) (r : Range) → holds a r ≡ true → RangeHolds r a
 holds_tells a r e = (grind (arith, nat_tests), grind (arith, nat_tests))
 
+-- and back
 tells_holds : (a : ℕ) (r : Range) → RangeHolds r a → holds a r ≡ true
 tells_holds a r h = let low : r.base ≤ a = h.0 in let up : a < r.base + r.size = h.1 in grind (arith, nat_tests)
 
@@ -177,6 +183,7 @@ some_tells a (r ∷ rs) e = by (some_tells a rs) (holds a r) refl e where
   by later true t e = (r, inl refl, holds_tells a r t)
   by later false t e = let found = later e in (found.0, inr found.1, found.2)
 
+-- and back
 pub tells_some : (a : ℕ) (rs : List Range) (r : Range) → Among r rs → RangeHolds r a → some_holds a rs ≡ true
 tells_some a [] r m h = absurd m
 tells_some a (s ∷ ss) r (inl e) h = let t : holds a s ≡ true = tells_holds a s (subst (λ z. RangeHolds z a) e h) in rw t refl
@@ -192,6 +199,7 @@ has_address x ranges d a long is e =
     let found = some_tells a rs.0.ranges (subst (λ z. some_holds a z ≡ true) (node_ranges x ranges d rs.0 rs.1) e) in
     (rs.0, rs.1, found.0, found.1, found.2)
 
+-- and back
 pub address_has : (x : XbarDesc) (ranges : List NodeRanges) (d a : ℕ) → IsDevice x d → HasAddress ranges d a → some_holds a (device_ranges (crossbar_of x ranges) d) ≡ true
 address_has x ranges d a is h = subst (λ z. some_holds a z ≡ true) (sym (node_ranges x ranges d h.0 h.1)) (tells_some a h.0.ranges h.2 h.3 h.4)
 

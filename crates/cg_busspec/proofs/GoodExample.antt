@@ -15,15 +15,19 @@ use Rattle.cg_busspec.proofs.Law.{crossbar_module_means}
 
 -- ---- the four nodes
 
+-- a host on the crossbar's clock
 abbrev cpu : NodeDesc
 cpu = host_node (codes "cpu") (codes "clk_i") (2 ∷ 3 ∷ [])
 
+-- a host on another
 abbrev dma : NodeDesc
 dma = host_node (codes "dma") (codes "clk_dma") (3 ∷ [])
 
+-- a device on another
 abbrev uart : NodeDesc
 uart = device_node (codes "io.uart") (codes "clk_io")
 
+-- a device on the crossbar's
 abbrev ram : NodeDesc
 ram = device_node (codes "ram") (codes "clk_i")
 
@@ -34,6 +38,7 @@ data Numbered : ℕ → NodeDesc → Type 0 where
   second : Numbered 2 uart
   third : Numbered 3 ram
 
+-- there are no others
 numbered : (i : ℕ) (n : NodeDesc) → NodeIs small i n → Numbered i n
 numbered zero n e = let same : cpu ≡ n = cc in subst (Numbered 0) same zeroth
 numbered (suc zero) n e = let same : dma ≡ n = cc in subst (Numbered 1) same first
@@ -47,15 +52,18 @@ data Connected : ℕ → ℕ → Type 0 where
   cpu_ram : Connected 0 3
   dma_ram : Connected 1 3
 
+-- what the first host connects to
 from_cpu : (d : ℕ) → Among d (2 ∷ 3 ∷ []) → Connected 0 d
 from_cpu d (inl e) = subst (Connected 0) (sym e) cpu_uart
 from_cpu d (inr (inl e)) = subst (Connected 0) (sym e) cpu_ram
 from_cpu d (inr (inr a)) = absurd a
 
+-- and the second
 from_dma : (d : ℕ) → Among d (3 ∷ []) → Connected 1 d
 from_dma d (inl e) = subst (Connected 1) (sym e) dma_ram
 from_dma d (inr a) = absurd a
 
+-- there are no other pairs
 connected : (h d : ℕ) → Connects small h d → Connected h d
 connected h d c = by h c.0 (numbered h c.0 c.1) c.2 c.3 where
   by : (h : ℕ) (n : NodeDesc) → Numbered h n → n.host ≡ true → Among d n.to → Connected h d
@@ -69,6 +77,7 @@ data Device : ℕ → Type 0 where
   is_uart : Device 2
   is_ram : Device 3
 
+-- there are no others
 device : (d : ℕ) → IsDevice small d → Device d
 device d is = by d is.0 (numbered d is.0 is.1) is.2 where
   by : (d : ℕ) (n : NodeDesc) → Numbered d n → n.host ≡ false → Device d
@@ -79,6 +88,7 @@ device d is = by d is.0 (numbered d is.0 is.1) is.2 where
 
 -- ---- the crossbar is valid
 
+-- each node is valid
 valid_node : (i : ℕ) (n : NodeDesc) → Numbered i n → IsValidNode n
 valid_node _ _ zeroth = record {
   name = inl (((refl, (refl, (refl, tt))), refl), omega arith);
@@ -105,6 +115,7 @@ valid_node _ _ third = record {
   ranges = λ r a. absurd a;
 }
 
+-- so is each member
 valid_member : (n : NodeDesc) → Among n small.nodes → IsValidNode n
 valid_member n (inl e) = subst IsValidNode (sym e) (valid_node 0 cpu zeroth)
 valid_member n (inr (inl e)) = subst IsValidNode (sym e) (valid_node 1 dma first)
@@ -116,6 +127,7 @@ valid_member n (inr (inr (inr (inr a)))) = absurd a
 abbrev number_of : List ℕ → ℕ
 number_of n = cond (bytes_eq n (codes "cpu")) 0 (cond (bytes_eq n (codes "dma")) 1 (cond (bytes_eq n (codes "ram")) 3 2))
 
+-- it is the number
 number_by_name : (i : ℕ) (n : NodeDesc) → Numbered i n → number_of n.name ≡ i
 number_by_name _ _ zeroth = refl
 number_by_name _ _ first = refl
@@ -128,37 +140,44 @@ place_of_two zero d e = let same : 2 ≡ d = cc in omega (arith, same)
 place_of_two (suc zero) d e = let same : 3 ≡ d = cc in omega (arith, same)
 place_of_two (suc (suc i)) d e = cc
 
+-- of one device
 place_of_one : (i d : ℕ) → slice_get (3 ∷ []) i ≡ Some d → i ≡ 0
 place_of_one zero d e = refl
 place_of_one (suc i) d e = cc
 
+-- so each device stands once
 once : (h i j d : ℕ) (n : NodeDesc) → Numbered h n → slice_get n.to i ≡ Some d → slice_get n.to j ≡ Some d → i ≡ j
 once _ i j d _ zeroth p q = omega (arith, place_of_two i d p, place_of_two j d q)
 once _ i j d _ first p q = omega (arith, place_of_one i d p, place_of_one j d q)
 once _ i j d _ second p q = cc
 once _ i j d _ third p q = cc
 
+-- what a host connects to is a device
 devices_only : (h d : ℕ) → Connected h d → IsDevice small d
 devices_only _ _ cpu_uart = (uart, refl, refl)
 devices_only _ _ cpu_ram = (ram, refl, refl)
 devices_only _ _ dma_ram = (ram, refl, refl)
 
+-- a device connects to none
 no_device_of_device : (i : ℕ) (n : NodeDesc) → Numbered i n → n.host ≡ false → n.to ≡ []
 no_device_of_device _ _ zeroth t = cc
 no_device_of_device _ _ first t = cc
 no_device_of_device _ _ second t = refl
 no_device_of_device _ _ third t = refl
 
+-- each host to some
 some_device : (h : ℕ) (n : NodeDesc) → Numbered h n → n.host ≡ true → (d : ℕ) × Connects small h d
 some_device _ _ zeroth t = (2, (cpu, refl, refl, inl refl))
 some_device _ _ first t = (3, (dma, refl, refl, inl refl))
 some_device _ _ second t = cc
 some_device _ _ third t = cc
 
+-- and to each device some host
 some_host : (d : ℕ) → Device d → (h : ℕ) × Connects small h d
 some_host _ is_uart = (0, (cpu, refl, refl, inl refl))
 some_host _ is_ram = (1, (dma, refl, refl, inl refl))
 
+-- all together
 small_is_valid : IsValidCrossbar small
 small_is_valid = record {
   name = (((refl, (refl, (refl, (refl, tt)))), refl), omega arith);
@@ -180,14 +199,17 @@ data DeviceRanges : ℕ → NodeRanges → Type 0 where
   of_uart : DeviceRanges 2 (ranges_of (range 1073741824 64 ∷ []))
   of_ram : DeviceRanges 3 (ranges_of (range 268435456 4096 ∷ range 536870912 65536 ∷ []))
 
+-- there are no others
 device_ranges : (d : ℕ) (rs : NodeRanges) → Device d → RangesAre small_ranges d rs → DeviceRanges d rs
 device_ranges _ rs is_uart e = let same : ranges_of (range 1073741824 64 ∷ []) ≡ rs = cc in subst (DeviceRanges 2) same of_uart
 device_ranges _ rs is_ram e = let same : ranges_of (range 268435456 4096 ∷ range 536870912 65536 ∷ []) ≡ rs = cc in subst (DeviceRanges 3) same of_ram
 
+-- there are some
 some_range : (d : ℕ) (rs : NodeRanges) → DeviceRanges d rs → IsSomeOf rs.ranges
 some_range _ _ of_uart = tt
 some_range _ _ of_ram = tt
 
+-- of good shape
 shapes : (d : ℕ) (rs : NodeRanges) → DeviceRanges d rs → AllOf IsRange rs.ranges
 shapes _ _ of_uart = (record { power = 6; size_is = refl; some = omega arith; turn = 16777216; aligned = refl; ends = omega arith }, tt)
 shapes _ _ of_ram = (
@@ -199,11 +221,13 @@ shapes _ _ of_ram = (
 both_hold : (b s c t a : ℕ) → b + s ≤ c → RangeHolds (range b s) a → RangeHolds (range c t) a → ⊥
 both_hold b s c t a apart p q = absurd (omega (arith, p.1, q.0, apart))
 
+-- one range has one place
 one_range : (i j : ℕ) (x r s : Range) → slice_get (x ∷ []) i ≡ Some r → slice_get (x ∷ []) j ≡ Some s → i ≡ j
 one_range zero zero x r s p q = refl
 one_range zero (suc j) x r s p q = cc
 one_range (suc i) j x r s p q = cc
 
+-- two ranges apart hold no address both
 two_ranges : (b t c u a i j : ℕ) (r s : Range) → b + t ≤ c → slice_get (range b t ∷ range c u ∷ []) i ≡ Some r → slice_get (range b t ∷ range c u ∷ []) j ≡ Some s
     → RangeHolds r a → RangeHolds s a → i ≡ j
 two_ranges b t c u a zero zero r s apart p q k l = refl
@@ -218,6 +242,7 @@ two_ranges b t c u a (suc (suc i)) j r s apart p q k l = cc
 two_ranges b t c u a zero (suc (suc j)) r s apart p q k l = cc
 two_ranges b t c u a (suc zero) (suc (suc j)) r s apart p q k l = cc
 
+-- so no device has an address twice
 ranges_differ : (d i j a : ℕ) (rs : NodeRanges) (r s : Range) → DeviceRanges d rs → slice_get rs.ranges i ≡ Some r → slice_get rs.ranges j ≡ Some s → RangeHolds r a → RangeHolds s a → i ≡ j
 ranges_differ _ i j a _ r s of_uart p q k l = one_range i j (range 1073741824 64) r s p q
 ranges_differ _ i j a _ r s of_ram p q k l = two_ranges 268435456 4096 536870912 65536 a i j r s (omega arith) p q k l
@@ -232,6 +257,7 @@ uart_low a h = by h.0 (device_ranges 2 h.0 is_uart h.1) h.2 h.3 h.4 where
   by : (rs : NodeRanges) → DeviceRanges 2 rs → (r : Range) → Among r rs.ranges → RangeHolds r a → 1073741824 ≤ a
   by _ of_uart r m k = in_one r m k
 
+-- and of the second below
 ram_high : (a : ℕ) → HasAddress small_ranges 3 a → a < 1073741824
 ram_high a h = by h.0 (device_ranges 3 h.0 is_ram h.1) h.2 h.3 h.4 where
   in_two : (r : Range) → Among r (range 268435456 4096 ∷ range 536870912 65536 ∷ []) → RangeHolds r a → a < 1073741824
@@ -242,6 +268,7 @@ ram_high a h = by h.0 (device_ranges 3 h.0 is_ram h.1) h.2 h.3 h.4 where
   by : (rs : NodeRanges) → DeviceRanges 3 rs → (r : Range) → Among r rs.ranges → RangeHolds r a → a < 1073741824
   by _ of_ram r m k = in_two r m k
 
+-- so no host has an address twice
 apart : (h d e a : ℕ) → Connected h d → Connected h e → HasAddress small_ranges d a → HasAddress small_ranges e a → d ≡ e
 apart _ _ _ a cpu_uart cpu_uart p q = refl
 apart _ _ _ a cpu_uart cpu_ram p q = absurd (omega (arith, uart_low a p, ram_high a q))
@@ -249,6 +276,7 @@ apart _ _ _ a cpu_ram cpu_uart p q = absurd (omega (arith, uart_low a q, ram_hig
 apart _ _ _ a cpu_ram cpu_ram p q = refl
 apart _ _ _ a dma_ram dma_ram p q = refl
 
+-- all together
 small_ranges_are : AreRangesOf small small_ranges
 small_ranges_are = record {
   count = refl;

@@ -21,6 +21,7 @@ use Rattle.cg_busspec.proofs.Selects.{address_bits, first_with, select_is}
 
 -- ---- learning
 
+-- learning from lists put together
 pub learn_join : (k : Known) (xs ys : List Entry) → learn_all k (xs ++ ys) ≡ learn_all (learn_all k xs) ys
 learn_join k [] ys = refl
 learn_join k (wire w n ∷ xs) ys = learn_join k xs ys
@@ -32,20 +33,25 @@ learn_join k (inst m ps n cs ∷ xs) ys = learn_join k xs ys
 abbrev pub Silent : List Entry → Type 0
 Silent es = (k : Known) → learn_all k es ≡ k
 
+-- lists put together
 silent_join : (xs ys : List Entry) → Silent xs → Silent ys → Silent (xs ++ ys)
 silent_join xs ys a b k = learn_join k xs ys ∙ ap (λ z. learn_all z ys) (a k) ∙ b k
 
+-- lists that are made number by number
 silent_flat : (f : ℕ → List Entry) (is : List ℕ) → ((i : ℕ) → Silent (f i)) → Silent (flat_map f is)
 silent_flat f [] a k = refl
 silent_flat f (i ∷ is) a k = silent_join (f i) (flat_map f is) (a i) (silent_flat f is a) k
 
+-- entries where a test holds
 silent_if : (b : Bool) (xs : List Entry) → Silent xs → Silent (entries_if b xs)
 silent_if true xs a k = a k
 silent_if false xs a k = refl
 
+-- a link's wires
 silent_links : (l : Link) → Silent (link_wires l)
 silent_links l k = refl
 
+-- all wires
 silent_wires : (x : Crossbar) → Silent (crossbar_wires x.desc)
 silent_wires x =
     silent_join (flat_map (host_wires x.desc) (hosts x.desc)) _ (silent_flat (host_wires x.desc) (hosts x.desc) (λ h. silent_if (has_fifo x.desc h) _ (silent_links (f_link x.desc h))))
@@ -53,6 +59,7 @@ silent_wires x =
     (silent_flat (host_lanes x.desc) (hosts x.desc) (λ h. silent_flat (lane_wires x.desc h) (reach x.desc h) (λ d. silent_if (is_joined x.desc d) _ (silent_links (l_link x.desc h d)))))
     (silent_flat (device_wires x.desc) (devices x.desc) (λ d. silent_if (has_fifo x.desc d) _ (silent_links (m_link x.desc d)))))
 
+-- all parts
 silent_parts : (x : Crossbar) → Silent (crossbar_parts x.desc)
 unfolding fifo_instance split_instance join_instance
 silent_parts x =
@@ -79,6 +86,7 @@ told_now k n b x known value = rw known (record { known = rw (name_is_itself n) 
 
 -- ---- the nets that a select uses
 
+-- a range's term uses only the request
 term_known : (names : List (List ℕ)) (q : List ℕ) (r : Range) → is_among names q ≡ true → is_known names (range_term q r) ≡ true
 unfolding range_term
 term_known names q r h = by (eqb (power_of r) 32) where
@@ -86,10 +94,12 @@ term_known names q r h = by (eqb (power_of r) 32) where
   by true = refl
   by false = rw h refl
 
+-- so do all terms
 terms_known : (names : List (List ℕ)) (q : List ℕ) (rs : List Range) → is_among names q ≡ true → are_known names (range_terms q rs) ≡ true
 terms_known names q [] h = refl
 terms_known names q (r ∷ rs) h = rw (term_known names q r h, terms_known names q rs h) refl
 
+-- and the select
 select_known : (names : List (List ℕ)) (x : Crossbar) (q : List ℕ) (j : ℕ) (ds : List ℕ) → is_among names q ≡ true → is_known names (select x q j ds) ≡ true
 select_known names x q j [] h = refl
 select_known names x q j (d ∷ ds) h = rw (terms_known names q (device_ranges x d) h, select_known names x q (suc j) ds h) refl
@@ -112,6 +122,7 @@ no_select x h g = by (has_fifo x.desc h) where
 abbrev pub select_bits : Crossbar → ℕ → Bits → Bits
 select_bits x h request = bits 8 (first_with x (number (address_bits request)) 0 (reach x.desc h))
 
+-- behind all selects the host's is known
 selects_tell : (x : Crossbar) → IsCrossbar x → NamesDiffer x → (h : ℕ) (request : Bits) → Among h (hosts x.desc) → length request ≡ 70 → (gs : List ℕ) (k : Known)
     → ((g : ℕ) → Among g gs → Among g (hosts x.desc)) → Told k (socket_link x.desc h).request request → (Told k (sel x.desc h) (select_bits x h request) ⊎ Among h gs)
     → Told (learn_all k (map (host_select x) gs)) (sel x.desc h) (select_bits x h request)

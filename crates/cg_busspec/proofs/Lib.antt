@@ -15,10 +15,10 @@ pub mod WellParts
 pub mod WellModule
 pub mod Passages
 pub mod Described
+pub mod Members
 pub mod Accepted
 pub mod Named
 pub mod Meant
-pub mod Members
 pub mod Standing
 pub mod SelectValues
 pub mod Law

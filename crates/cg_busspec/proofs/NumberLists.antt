@@ -29,14 +29,17 @@ inner_differ f (k ∷ ks) d i (inr h) = inner_differ f ks (differ_back (f k) (fl
 
 -- ---- names of ports and entries
 
+-- of lists put together
 pub port_names_join : (xs ys : List Port) → port_names (xs ++ ys) ≡ port_names xs ++ port_names ys
 port_names_join [] ys = refl
 port_names_join (x ∷ xs) ys = ap (λ z. x.name ∷ z) (port_names_join xs ys)
 
+-- of lists that are made number by number
 pub port_names_flat : (f : ℕ → List Port) (is : List ℕ) → port_names (flat_map f is) ≡ flat_map (λ i. port_names (f i)) is
 port_names_flat f [] = refl
 port_names_flat f (i ∷ is) = port_names_join (f i) (flat_map f is) ∙ ap (λ z. port_names (f i) ++ z) (port_names_flat f is)
 
+-- of entries put together
 pub entry_names_join : (xs ys : List Entry) → entry_names (xs ++ ys) ≡ entry_names xs ++ entry_names ys
 entry_names_join [] ys = refl
 entry_names_join (wire w n ∷ xs) ys = ap (λ z. n ∷ z) (entry_names_join xs ys)
@@ -44,12 +47,14 @@ entry_names_join (drive w n e ∷ xs) ys = ap (λ z. n ∷ z) (entry_names_join 
 entry_names_join (assign n e ∷ xs) ys = entry_names_join xs ys
 entry_names_join (inst m ps n cs ∷ xs) ys = ap (λ z. n ∷ z) (entry_names_join xs ys)
 
+-- of entries that are made number by number
 pub entry_names_flat : (f : ℕ → List Entry) (is : List ℕ) → entry_names (flat_map f is) ≡ flat_map (λ i. entry_names (f i)) is
 entry_names_flat f [] = refl
 entry_names_flat f (i ∷ is) = entry_names_join (f i) (flat_map f is) ∙ ap (λ z. entry_names (f i) ++ z) (entry_names_flat f is)
 
 -- ---- inputs and outputs
 
+-- inputs of lists put together
 pub inputs_join : (xs ys : List Port) → inputs_of (xs ++ ys) ≡ inputs_of xs ++ inputs_of ys
 inputs_join [] ys = refl
 inputs_join (x ∷ xs) ys = rw (inputs_join xs ys) (by x.input) where
@@ -57,6 +62,7 @@ inputs_join (x ∷ xs) ys = rw (inputs_join xs ys) (by x.input) where
   by true = refl
   by false = refl
 
+-- and outputs
 pub outputs_join : (xs ys : List Port) → outputs_of (xs ++ ys) ≡ outputs_of xs ++ outputs_of ys
 outputs_join [] ys = refl
 outputs_join (x ∷ xs) ys = rw (outputs_join xs ys) (by x.input) where
@@ -73,6 +79,7 @@ output_is_port (p ∷ ps) n a = by (output_is_port ps n) p.input a where
   by rest false (inl e) = inl e
   by rest false (inr a) = inr (rest a)
 
+-- an input is a port
 pub input_is_port : (ps : List Port) (n : List ℕ) → Among n (inputs_of ps) → Among n (port_names ps)
 input_is_port [] n a = a
 input_is_port (p ∷ ps) n a = by (input_is_port ps n) p.input a where
@@ -109,6 +116,7 @@ WireIn w n (drive u m x ∷ es) = WireIn w n es
 WireIn w n (assign m x ∷ es) = WireIn w n es
 WireIn w n (inst m ps k cs ∷ es) = WireIn w n es
 
+-- a wire of the first entries
 pub wire_front : (w : ℕ) (n : List ℕ) (xs ys : List Entry) → WireIn w n xs → WireIn w n (xs ++ ys)
 wire_front w n [] ys h = absurd h
 wire_front w n (wire u m ∷ xs) ys (inl e) = inl e
@@ -117,6 +125,7 @@ wire_front w n (drive u m x ∷ xs) ys h = wire_front w n xs ys h
 wire_front w n (assign m x ∷ xs) ys h = wire_front w n xs ys h
 wire_front w n (inst m ps k cs ∷ xs) ys h = wire_front w n xs ys h
 
+-- of the last
 pub wire_back : (w : ℕ) (n : List ℕ) (xs ys : List Entry) → WireIn w n ys → WireIn w n (xs ++ ys)
 wire_back w n [] ys h = h
 wire_back w n (wire u m ∷ xs) ys h = inr (wire_back w n xs ys h)
@@ -124,6 +133,7 @@ wire_back w n (drive u m x ∷ xs) ys h = wire_back w n xs ys h
 wire_back w n (assign m x ∷ xs) ys h = wire_back w n xs ys h
 wire_back w n (inst m ps k cs ∷ xs) ys h = wire_back w n xs ys h
 
+-- of entries that are made number by number
 pub wire_flat : (f : ℕ → List Entry) (is : List ℕ) (i w : ℕ) (n : List ℕ) → Among i is → WireIn w n (f i) → WireIn w n (flat_map f is)
 wire_flat f [] i w n h a = absurd h
 wire_flat f (j ∷ js) i w n (inl e) a = wire_front w n (f j) (flat_map f js) (subst (λ z. WireIn w n (f z)) e a)
@@ -138,6 +148,7 @@ wire_declared w n (drive u m x ∷ es) h = inr (wire_declared w n es h)
 wire_declared w n (assign m x ∷ es) h = wire_declared w n es h
 wire_declared w n (inst m ps k cs ∷ es) h = wire_declared w n es h
 
+-- declared further down
 pub declares_back : (xs ys : List Net) (n : List ℕ) (w : ℕ) → Declares ys n w → Declares (xs ++ ys) n w
 declares_back [] ys n w d = d
 declares_back (x ∷ xs) ys n w d = inr (declares_back xs ys n w d)

@@ -25,15 +25,18 @@ low_bit : (b : Bool) (n : ℕ) → eqb ((cond b 1 0 + 2 * n) % 2) 1 ≡ b
 low_bit true n = eq-eqb _ _ (omega arith)
 low_bit false n = grind (arith, nat_tests)
 
+-- and its half
 high_bits : (b : Bool) (n : ℕ) → (cond b 1 0 + 2 * n) / 2 ≡ n
 high_bits true n = omega arith
 high_bits false n = omega arith
 
+-- the list of its number
 pub bits-number : (xs : Bits) → bits (length xs) (number xs) ≡ xs
 unfolding bits
 bits-number [] = refl
 bits-number (b ∷ bs) = rw (low_bit b (number bs), high_bits b (number bs), bits-number bs) refl
 
+-- a number of that many bits
 pub number_small : (xs : Bits) → number xs < 2 ^ length xs
 number_small [] = omega arith
 number_small (true ∷ bs) = omega (arith, number_small bs, pow-suc 2 (length bs))
@@ -43,6 +46,7 @@ number_small (false ∷ bs) = omega (arith, number_small bs, pow-suc 2 (length b
 one_or_more : (k : ℕ) → leb (2 ^ suc k) 1 ≡ false
 one_or_more k = let some : 0 < 2 ^ k = pow_pos k in let twice : 2 ^ suc k ≡ 2 ^ k + 2 ^ k = omega (arith, pow-suc 2 k) in grind (arith, nat_tests)
 
+-- as often as its power
 pub halvings-power : (fuel k : ℕ) → k ≤ fuel → halvings fuel (2 ^ k) ≡ k
 halvings-power zero k h = omega arith
 halvings-power (suc fuel) zero h = refl

@@ -40,6 +40,7 @@ abbrev pub AllDeclared : List Net → ℕ → List (List ℕ) → Type 0
 AllDeclared nets w [] = Unit {0}
 AllDeclared nets w (n ∷ ns) = Declares nets n w × AllDeclared nets w ns
 
+-- all declared nets are found
 pub declared_are_nets : (nets : List Net) (w : ℕ) (ns : List (List ℕ)) → AllDeclared nets w ns → are_nets nets w ns ≡ true
 declared_are_nets nets w [] d = refl
 declared_are_nets nets w (n ∷ ns) d = rw (declared_is_net nets n w d.0, declared_are_nets nets w ns d.1) refl
@@ -49,6 +50,7 @@ all_declared_join : (nets : List Net) (w : ℕ) (xs ys : List (List ℕ)) → Al
 all_declared_join nets w [] ys a b = b
 all_declared_join nets w (x ∷ xs) ys a b = (a.0, all_declared_join nets w xs ys a.1 b)
 
+-- of nets in the reverse order
 pub all_declared_reverse : (nets : List Net) (w : ℕ) (xs : List (List ℕ)) → AllDeclared nets w xs → AllDeclared nets w (reverse xs)
 all_declared_reverse nets w [] a = tt
 all_declared_reverse nets w (x ∷ xs) a = subst (AllDeclared nets w) (sym (reverse-append (x ∷ []) xs)) (all_declared_join nets w (reverse xs) (x ∷ []) (all_declared_reverse nets w xs a.1) (a.0, tt))
@@ -81,6 +83,7 @@ net_alone nets w n q = by (is_net nets w n) where
     here (inr nowhere) = absurd nowhere
   by false e = cc
 
+-- what is among nets that a test gives
 among_one : (b : Bool) (xs : List (List ℕ)) (q : List ℕ) → is_among (cond b xs []) q ≡ true → is_among xs q ≡ true
 among_one true xs q e = e
 among_one false xs q e = cc
@@ -103,6 +106,7 @@ pub record LinksDeclared (nets : List Net) (ls : List Link) : Type 0 where
   pub requests_are : AllDeclared nets 70 (requests ls)
   pub responses_are : AllDeclared nets 33 (responses ls)
 
+-- links from their requests and responses
 pub paired_back : (ls : List Link) → paired (requests ls) (responses ls) ≡ ls
 paired_back [] = refl
 paired_back (l ∷ ls) = ap (λ z. l ∷ z) (paired_back ls)
@@ -116,6 +120,7 @@ link_is_in l (x ∷ xs) (inr h) = rw (link_is_in l xs h) (either (bytes_eq x.req
   either true = refl
   either false = refl
 
+-- a link's request is one of the requests
 pub request_among : (l : Link) (ls : List Link) → Among l ls → Among l.request (requests ls)
 request_among l [] h = absurd h
 request_among l (x ∷ xs) (inl e) = inl (ap (λ z. z.request) e)
@@ -127,16 +132,20 @@ request_among l (x ∷ xs) (inr h) = inr (request_among l xs h)
 abbrev pub through : List Net → Known → Link → List Entry → Option Link
 through nets k l es = passed nets k l (part_at nets l.request es)
 
+-- entries that leave the way to those behind them
 abbrev pub Skips : List Net → Known → Link → List Entry → Type 0
 Skips nets k l es = (rest : List Entry) → through nets k l (es ++ rest) ≡ through nets k l rest
 
+-- so do lists put together
 pub skips_join : (nets : List Net) (k : Known) (l : Link) (xs ys : List Entry) → Skips nets k l xs → Skips nets k l ys → Skips nets k l (xs ++ ys)
 skips_join nets k l xs ys a b rest = rw (append_assoc xs ys rest, a (ys ++ rest)) (b rest)
 
+-- entries where a test holds
 pub skips_if : (nets : List Net) (k : Known) (l : Link) (b : Bool) (xs : List Entry) → (b ≡ true → Skips nets k l xs) → Skips nets k l (entries_if b xs)
 skips_if nets k l true xs a = a refl
 skips_if nets k l false xs a = λ rest. refl
 
+-- and entries that are made number by number
 pub skips_flat : (nets : List Net) (k : Known) (l : Link) (f : ℕ → List Entry) (is : List ℕ) → ((i : ℕ) → Among i is → Skips nets k l (f i)) → Skips nets k l (flat_map f is)
 skips_flat nets k l f [] a = λ rest. refl
 skips_flat nets k l f (i ∷ is) a = skips_join nets k l (f i) (flat_map f is) (a i (inl refl)) (skips_flat nets k l f is (λ j h. a j (inr h)))
@@ -169,6 +178,7 @@ fifo_skips nets k l name near far a b other rest =
     let no : is_among (nets_at nets 70 (Some (net a.request))) l.request ≡ false = fails _ (λ e. other (net_alone nets 70 a.request l.request e)) in
     rw no refl
 
+-- over the FIFO that takes the request
 pub fifo_goes : (nets : List Net) (k : Known) (name near far : List ℕ) (a b : Link) → LinksDeclared nets (a ∷ []) → LinksDeclared nets (b ∷ [])
     → (rest : List Entry) → through nets k a (fifo_instance name near far a b ∷ rest) ≡ Some b
 unfolding fifo_instance
@@ -182,6 +192,7 @@ split_skips nets k l name clock s a bs other rest =
     let no : is_among (nets_at nets 70 (Some (net a.request))) l.request ≡ false = fails _ (λ e. other (net_alone nets 70 a.request l.request e)) in
     rw no refl
 
+-- over the 1-to-N socket that takes it
 pub split_goes : (nets : List Net) (k : Known) (name clock s : List ℕ) (a : Link) (bs : List Link) → LinksDeclared nets (a ∷ []) → LinksDeclared nets bs
     → (rest : List Entry) → through nets k a (split_instance name clock s a bs ∷ rest) ≡ selected k (Some (net s)) bs
 unfolding split_instance
@@ -195,6 +206,7 @@ join_skips nets k l name clock ls b other rest =
     let no : is_among (nets_at nets 70 (Some (bundle (requests ls)))) l.request ≡ false = fails _ (λ e. other (bundle_alone nets 70 (requests ls) l.request e)) in
     rw no refl
 
+-- over the M-to-1 socket that takes it
 pub join_goes : (nets : List Net) (k : Known) (l : Link) (name clock : List ℕ) (ls : List Link) (b : Link) → Among l ls → LinksDeclared nets ls → LinksDeclared nets (b ∷ [])
     → (rest : List Entry) → through nets k l (join_instance name clock ls b ∷ rest) ≡ Some b
 unfolding join_instance

@@ -26,16 +26,19 @@ pub record Early (held : List (List ℕ)) : Type 0 where
   pub no_m : (n : List ℕ) → is_among held (109 ∷ n) ≡ false
   pub no_d : (n : List ℕ) → is_among held (100 ∷ n) ≡ false
 
+-- the rest of a name behind its first byte
 abbrev tail : List ℕ → List ℕ
 tail [] = []
 tail (c ∷ cs) = cs
 
+-- the way from a device's first link behind an M-to-1 socket
 from_device : (x : Crossbar) → NamesDiffer x → (d : ℕ) (request : Bits) (held : List (List ℕ)) → Among d (devices x.desc) → ((n : List ℕ) → is_among held (100 ∷ n) ≡ false)
     → (b : Bool) → has_fifo x.desc d ≡ b → Passes (crossbar_module x) request held (cond b (m_link x.desc d) (d_link x.desc d)) (Some (d_link x.desc d))
 from_device x n d request held i new false e = out (at_device x d request ((d_link x.desc d).request ∷ held) i)
 from_device x n d request held i new true e =
     over (over_device_fifo x n d request ((m_link x.desc d).request ∷ held) i e) (new (tail (d_link x.desc d).request)) (out (at_device x d request ((d_link x.desc d).request ∷ ((m_link x.desc d).request ∷ held)) i))
 
+-- from a link behind a host's socket
 from_lane : (x : Crossbar) → IsCrossbar x → NamesDiffer x → (h d : ℕ) (request : Bits) (held : List (List ℕ)) → Among h (hosts x.desc) → Among d (reach x.desc h) → Early held
     → (b : Bool) → is_joined x.desc d ≡ b → Passes (crossbar_module x) request held (cond b (l_link x.desc h d) (joined_link x.desc d)) (Some (d_link x.desc d))
 unfolding joined_link
@@ -46,11 +49,13 @@ from_lane x c n h d request held i j f true e =
       new true = f.no_m (tail (m_link x.desc d).request)
       new false = f.no_d (tail (d_link x.desc d).request)
 
+-- the way was not at such a link
 new_lane : (x : Crossbar) (h d : ℕ) (held : List (List ℕ)) → Early held → (b c : Bool) → is_among held (cond b (l_link x.desc h d) (cond c (m_link x.desc d) (d_link x.desc d))).request ≡ false
 new_lane x h d held f true c = f.no_l (tail (l_link x.desc h d).request)
 new_lane x h d held f false true = f.no_m (tail (m_link x.desc d).request)
 new_lane x h d held f false false = f.no_d (tail (d_link x.desc d).request)
 
+-- the step over a host's socket
 split_step : (x : Crossbar) → IsCrossbar x → NamesDiffer x → (h : ℕ) (request : Bits) (held : List (List ℕ)) → Among h (hosts x.desc) → length request ≡ 70
     → inside (crossbar_module x) request ((socket_link x.desc h).request ∷ held) (socket_link x.desc h)
     ≡ to_link (slice_get (map (lane x.desc h) (reach x.desc h)) (first_with x (number (address_bits request)) 0 (reach x.desc h)))
@@ -58,6 +63,7 @@ split_step x c n h request held i long = over_split x c n h request ((socket_lin
   here : bytes_eq (socket_link x.desc h).request (socket_link x.desc h).request ≡ true → is_among ((socket_link x.desc h).request ∷ held) (socket_link x.desc h).request ≡ true
   here e = rw e refl
 
+-- the way from a host's socket
 from_socket : (x : Crossbar) → IsCrossbar x → NamesDiffer x → (h d : ℕ) (request : Bits) (held : List (List ℕ)) → Among h (hosts x.desc) → Among d (reach x.desc h) → length request ≡ 70
     → some_holds (number (address_bits request)) (device_ranges x d) ≡ true → Early ((socket_link x.desc h).request ∷ held)
     → Passes (crossbar_module x) request held (socket_link x.desc h) (Some (d_link x.desc d))
@@ -67,6 +73,7 @@ from_socket x c n h d request held i j long has f =
     over (split_step x c n h request held i long ∙ ap to_link named) (new_lane x h d ((socket_link x.desc h).request ∷ held) f (is_joined x.desc d) (has_fifo x.desc d))
     (from_lane x c n h d request ((socket_link x.desc h).request ∷ held) i j f (is_joined x.desc d) refl)
 
+-- and from the host's link
 from_host : (x : Crossbar) → NamesDiffer x → (h : ℕ) (request : Bits) (o : Option Link) → Among h (hosts x.desc)
     → ((held : List (List ℕ)) → Early ((socket_link x.desc h).request ∷ held) → Passes (crossbar_module x) request held (socket_link x.desc h) o)
     → (b : Bool) → has_fifo x.desc h ≡ b → Passes (crossbar_module x) request [] (h_link x.desc h) o
@@ -101,6 +108,7 @@ was_held (x ∷ xs) place l = rw (was_held xs place l) (by (same_place x.place p
   by true = refl
   by false = refl
 
+-- a place is itself
 same_within : (i : ℕ) → same_place (within i) (within i) ≡ true
 same_within i = grind arith
 

@@ -33,6 +33,7 @@ record FirstPlace (c : Crossbar) (a j : ℕ) (ds : List ℕ) : Type 0 where
   has : (d : ℕ) → slice_get ds place ≡ Some d → some_holds a (device_ranges c d) ≡ true
   none_before : (i d : ℕ) → i < place → slice_get ds i ≡ Some d → some_holds a (device_ranges c d) ≡ false
 
+-- there is such a place
 first_place : (c : Crossbar) (a j : ℕ) (ds : List ℕ) → FirstPlace c a j ds
 first_place c a j [] = record { place = 0; is = omega arith; within = omega arith; has = λ d e. cc; none_before = λ i d low e. absurd (omega (arith, low)) }
 first_place c a j (d ∷ ds) = by (some_holds a (device_ranges c d)) refl (first_place c a (suc j) ds) where
@@ -101,6 +102,7 @@ record AtSocket (c : Crossbar) (h : ℕ) (s q : List ℕ) : Type 0 where
   select_is : s ≡ sel c.desc h
   request_is : q ≡ (socket_link c.desc h).request
 
+-- are those of its own entry
 at_socket : (c : Crossbar) → Differ (module_names (crossbar_module c)) → (h : ℕ) (ps : List Parameter) (name : List ℕ) (cs : List Connection) (s q : List ℕ) → Among h (hosts c.desc)
     → codes "u_s_" ++ label c.desc h ≡ name → Among (inst split_name ps name cs) (crossbar_entries c)
     → connection_at (codes "sel_i") cs ≡ Some (net s) → connection_at (codes "req_i") cs ≡ Some (net q) → AtSocket c h s q

@@ -35,6 +35,7 @@ address_long request long = length-take 32 (drop 32 request) ∙ ap (min 32) (le
 address_is : (request : Bits) → length request ≡ 70 → address_bits request ≡ bits 32 (number (address_bits request))
 address_is request long = sym (subst (λ w. bits w (number (address_bits request)) ≡ address_bits request) (address_long request long) (bits-number (address_bits request)))
 
+-- below 2^32
 address_small : (request : Bits) → length request ≡ 70 → number (address_bits request) < 2 ^ 32
 address_small request long = subst (λ w. number (address_bits request) < 2 ^ w) (address_long request long) (number_small (address_bits request))
 

@@ -56,12 +56,14 @@ named_part : (x : XbarDesc) (ranges : List NodeRanges) (i : ℕ) (n : NodeDesc) 
     → IsPart x part (start ++ label x i) cs
 named_part x ranges i n part start cs e is = subst (λ z. IsPart x part (start ++ z) cs) (sym (label_of x i n e)) is
 
+-- a host's FIFO
 host_fifo_stands : (x : XbarDesc) (ranges : List NodeRanges) (h : ℕ) → Among h (hosts x) → has_fifo x h ≡ true → Stands x (host_fifo_entry x h)
 unfolding fifo_instance
 host_fifo_stands x ranges h i t =
     let is = host_is x h i in
     named_part x ranges h is.0 fifo_name (codes "u_hf_") _ is.1 (host_fifo h is.0 _ (is.1, is.2) (other_clock x ranges h is.0 is.1 t) (clock_at x ranges h is.0 is.1) refl)
 
+-- a host's 1-to-N socket
 split_stands : (x : XbarDesc) (ranges : List NodeRanges) (h : ℕ) → Among h (hosts x) → Stands x (host_split_entry x h)
 unfolding split_instance
 split_stands x ranges h i = let is = host_is x h i in named_part x ranges h is.0 split_name (codes "u_s_") _ is.1 (split_socket h is.0 _ (is.1, is.2) refl)
@@ -88,6 +90,7 @@ joined_where x ranges d a b other c e =
     (feeder_has x a d (connects_host x a d c) (connects_has x a d c))
     (feeder_has x b d (connects_host x b d e) (connects_has x b d e))
 
+-- a device's M-to-1 socket
 join_stands : (x : XbarDesc) (ranges : List NodeRanges) (d : ℕ) → Among d (devices x) → is_joined x d ≡ true → Stands x (device_join_entry x d)
 unfolding join_instance
 join_stands x ranges d i t =
@@ -95,6 +98,7 @@ join_stands x ranges d i t =
     let two = two_hosts x ranges d t in
     named_part x ranges d is.0 join_name (codes "u_m_") _ is.1 (join_socket d two.0 two.1 is.0 _ (is.1, is.2) two.2 two.3 two.4 refl)
 
+-- a device's FIFO
 device_fifo_stands : (x : XbarDesc) (ranges : List NodeRanges) (d : ℕ) → Among d (devices x) → has_fifo x d ≡ true → Stands x (device_fifo_entry x d)
 unfolding fifo_instance
 device_fifo_stands x ranges d i t =
@@ -109,10 +113,12 @@ wires_stand x c =
     (all_flat (Stands x) (host_lanes c.desc) (hosts c.desc) (λ h i. all_flat (Stands x) (lane_wires c.desc h) (reach c.desc h) (λ d j. all_if (Stands x) (is_joined c.desc d) (link_wires (l_link c.desc h d)) (λ t. (tt, (tt, tt))))))
     (all_flat (Stands x) (device_wires c.desc) (devices c.desc) (λ d i. all_if (Stands x) (has_fifo c.desc d) (link_wires (m_link c.desc d)) (λ t. (tt, (tt, tt))))))
 
+-- selects are none
 selects_stand : (x : XbarDesc) (c : Crossbar) (hs : List ℕ) → AllOf (Stands x) (map (host_select c) hs)
 selects_stand x c [] = tt
 selects_stand x c (h ∷ hs) = (tt, selects_stand x c hs)
 
+-- parts are
 parts_stand : (x : XbarDesc) (ranges : List NodeRanges) → AllOf (Stands x) (crossbar_parts x)
 parts_stand x ranges =
     let c = crossbar_of x ranges in
@@ -122,6 +128,7 @@ parts_stand x ranges =
     (all_flat (Stands x) (device_parts c.desc) (devices c.desc) (λ d i. all_join (Stands x) (entries_if (is_joined c.desc d) (device_join_entry c.desc d ∷ [])) (entries_if (has_fifo c.desc d) (device_fifo_entry c.desc d ∷ []))
     (all_if (Stands x) (is_joined c.desc d) (device_join_entry c.desc d ∷ []) (λ t. (join_stands x ranges d i t, tt))) (all_if (Stands x) (has_fifo c.desc d) (device_fifo_entry c.desc d ∷ []) (λ t. (device_fifo_stands x ranges d i t, tt)))))
 
+-- all entries
 entries_stand : (x : XbarDesc) (ranges : List NodeRanges) → AllOf (Stands x) (crossbar_entries (crossbar_of x ranges))
 unfolding crossbar_entries
 entries_stand x ranges =
@@ -138,6 +145,7 @@ host_part_in c h e i a =
     among_back e (crossbar_wires c.desc) (crossbar_selects c ++ crossbar_parts c.desc) (among_back e (crossbar_selects c) (crossbar_parts c.desc)
     (among_front e (flat_map (host_parts c.desc) (hosts c.desc)) (flat_map (device_parts c.desc) (devices c.desc)) (among_flat (host_parts c.desc) (hosts c.desc) h e i a)))
 
+-- or of a device's
 pub device_part_in : (c : Crossbar) (d : ℕ) (e : Entry) → Among d (devices c.desc) → Among e (device_parts c.desc d) → Among e (crossbar_entries c)
 unfolding crossbar_entries
 device_part_in c d e i a =

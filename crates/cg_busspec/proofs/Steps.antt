@@ -27,6 +27,7 @@ wires_skip nets k l x =
     (skips_flat nets k l (host_lanes x.desc) (hosts x.desc) (λ h i. skips_flat nets k l (lane_wires x.desc h) (reach x.desc h) (λ d j. skips_if nets k l (is_joined x.desc d) (link_wires (l_link x.desc h d)) (λ e rest. refl))))
     (skips_flat nets k l (device_wires x.desc) (devices x.desc) (λ d i. skips_if nets k l (has_fifo x.desc d) (link_wires (m_link x.desc d)) (λ e rest. refl))))
 
+-- nor do selects
 selects_skip : (nets : List Net) (k : Known) (l : Link) (x : Crossbar) (hs : List ℕ) → Skips nets k l (map (host_select x) hs)
 selects_skip nets k l x [] rest = refl
 selects_skip nets k l x (h ∷ hs) rest = selects_skip nets k l x hs rest
@@ -49,6 +50,7 @@ through_host x k l h r i others here =
     wires_skip (all_nets x) k l x (crossbar_selects x ++ crossbar_parts x.desc) ∙ selects_skip (all_nets x) k l x (hosts x.desc) (crossbar_parts x.desc)
     ∙ through_flat (all_nets x) k l (host_parts x.desc) (hosts x.desc) h r i others here (flat_map (device_parts x.desc) (devices x.desc))
 
+-- or through a device's
 through_device : (x : Crossbar) (k : Known) (l : Link) (d : ℕ) (r : Option Link) → Among d (devices x.desc)
     → ((h : ℕ) → Among h (hosts x.desc) → Skips (all_nets x) k l (host_parts x.desc h))
     → ((e : ℕ) → Among e (devices x.desc) → (e ≡ d → ⊥) → Skips (all_nets x) k l (device_parts x.desc e)) → ((rest : List Entry) → through (all_nets x) k l (device_parts x.desc d ++ rest) ≡ r)
@@ -66,6 +68,7 @@ inside_goes : (x : Crossbar) (request : Bits) (held : List (List ℕ)) (l : Link
 unfolding inside crossbar_module
 inside_goes x request held l r inner goes = rw (inner, goes) refl
 
+-- and where it is one
 inside_leaves : (x : Crossbar) (request : Bits) (held : List (List ℕ)) (l : Link) → is_output_net x l.request ≡ true → inside (crossbar_module x) request held l ≡ leaves
 unfolding inside crossbar_module
 inside_leaves x request held l output = rw output refl
@@ -85,6 +88,7 @@ h_no_socket x n h g i j other = by (has_fifo x.desc g) where
   by true = clash (h_link x.desc h).request (f_link x.desc g).request refl
   by false = other_named x n (codes "h_") h g i j other
 
+-- the request at a host's socket is at no other host's port
 socket_no_h : (x : Crossbar) → NamesDiffer x → (h g : ℕ) → Among h (hosts x.desc) → Among g (hosts x.desc) → (g ≡ h → ⊥) → (socket_link x.desc h).request ≡ (h_link x.desc g).request → ⊥
 unfolding socket_link
 socket_no_h x n h g i j other = by (has_fifo x.desc h) where
@@ -92,6 +96,7 @@ socket_no_h x n h g i j other = by (has_fifo x.desc h) where
   by true = clash (f_link x.desc h).request (h_link x.desc g).request refl
   by false = other_named x n (codes "h_") h g i j other
 
+-- nor at another host's socket
 socket_no_socket : (x : Crossbar) → NamesDiffer x → (h g : ℕ) → Among h (hosts x.desc) → Among g (hosts x.desc) → (g ≡ h → ⊥) → (socket_link x.desc h).request ≡ (socket_link x.desc g).request → ⊥
 unfolding socket_link
 socket_no_socket x n h g i j other = by (has_fifo x.desc h) (has_fifo x.desc g) where
@@ -129,14 +134,17 @@ up_to_end x a j (d ∷ ds) = by (up_to_end x a (suc j) ds) (some_holds a (device
   by h true = omega arith
   by h false = omega (arith, h)
 
+-- that has 8 bits
 few_first : (x : Crossbar) (a : ℕ) (ds : List ℕ) → length ds ≤ 64 → first_with x a 0 ds < 2 ^ 8
 few_first x a ds few = omega (arith, up_to_end x a 0 ds, few)
 
+-- the request at a host's socket is no output
 socket_no_output : (x : Crossbar) → NamesDiffer x → (h : ℕ) → Among h (hosts x.desc) → (b : Bool) → has_fifo x.desc h ≡ b → is_output_net x (socket_link x.desc h).request ≡ false
 unfolding socket_link
 socket_no_output x n h i true e = rw e (f_no_output x n h i e)
 socket_no_output x n h i false e = rw e (h_no_output x n h i)
 
+-- a host's FIFO does not take the request behind it
 own_fifo : (x : Crossbar) (h : ℕ) → has_fifo x.desc h ≡ true → (socket_link x.desc h).request ≡ (h_link x.desc h).request → ⊥
 unfolding socket_link
 own_fifo x h e = rw e (clash (f_link x.desc h).request (h_link x.desc h).request refl)

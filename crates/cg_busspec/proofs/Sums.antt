@@ -18,14 +18,17 @@ total f (i ∷ is) = f i + total f is
 abbrev pub count_if : Bool → ℕ → ℕ
 count_if b n = cond b n 0
 
+-- equal numbers have equal sums
 pub total_same : (f g : ℕ → ℕ) (is : List ℕ) → ((i : ℕ) → Among i is → f i ≡ g i) → total f is ≡ total g is
 total_same f g [] e = refl
 total_same f g (i ∷ is) e = rw (e i (inl refl), total_same f g is (λ j h. e j (inr h))) refl
 
+-- a sum of sums
 pub total_sum : (f g : ℕ → ℕ) (is : List ℕ) → total (λ i. f i + g i) is ≡ total f is + total g is
 total_sum f g [] = omega arith
 total_sum f g (i ∷ is) = omega (arith, total_sum f g is)
 
+-- a sum of zeros
 total_zero : (is : List ℕ) → total (λ i. 0) is ≡ 0
 total_zero [] = refl
 total_zero (i ∷ is) = omega (arith, total_zero is)
@@ -100,6 +103,7 @@ above_start b i j (n ∷ ns) h = by (above_start b (suc i) j ns) (cond b n.host 
   by later true (inr m) = let low = later m in omega (arith, low)
   by later false m = let low = later m in omega (arith, low)
 
+-- each number stands once
 pub numbers_once : (b : Bool) (i : ℕ) (ns : List NodeDesc) → Once (numbers_of b i ns)
 numbers_once b i [] = tt
 numbers_once b i (n ∷ ns) = by (numbers_once b (suc i) ns) (cond b n.host (not n.host)) where
@@ -112,10 +116,12 @@ numbers_once b i (n ∷ ns) = by (numbers_once b (suc i) ns) (cond b n.host (not
 
 -- ---- a host has at most as many devices as there are
 
+-- a sum of ones is the length
 ones : (is : List ℕ) → total (λ i. 1) is ≡ length is
 ones [] = refl
 ones (i ∷ is) = omega (arith, ones is)
 
+-- a sum of some ones is at most the length
 at_most : (js is : List ℕ) → total (λ i. count_if (is_in js i) 1) is ≤ length is
 at_most js [] = omega arith
 at_most js (i ∷ is) = by (is_in js i) (at_most js is) where
@@ -154,6 +160,7 @@ upto_has (suc n) i h = by (eqb i n) refl (upto_has n i) where
   by true e later = inl (eqb-true i n e)
   by false e later = inr (later (grind (arith, nat_tests)))
 
+-- there are n
 upto_long : (n : ℕ) → length (upto n) ≡ n
 unfolding upto
 upto_long zero = refl
@@ -163,6 +170,7 @@ upto_long (suc n) = ap suc (upto_long n)
 pub at_most_below : (n : ℕ) (js : List ℕ) → Once js → ((j : ℕ) → Among j js → j < n) → length js ≤ n
 at_most_below n js o below = omega (arith, no_longer js (upto n) o (upto_once n) (λ j a. upto_has n j (below j a)), upto_long n)
 
+-- there are no more hosts, or devices, than nodes
 numbers_few : (b : Bool) (i : ℕ) (ns : List NodeDesc) → length (numbers_of b i ns) ≤ length ns
 numbers_few b i [] = omega arith
 numbers_few b i (n ∷ ns) = by (numbers_few b (suc i) ns) (cond b n.host (not n.host)) where
@@ -170,18 +178,22 @@ numbers_few b i (n ∷ ns) = by (numbers_few b (suc i) ns) (cond b n.host (not n
   by h true = omega (arith, h)
   by h false = omega (arith, h)
 
+-- devices stand once
 pub devices_once : (x : Crossbar) → Once (devices x.desc)
 unfolding devices
 devices_once x = numbers_once false 0 x.desc.nodes
 
+-- they are few
 pub devices_few : (x : Crossbar) → length (devices x.desc) ≤ length x.desc.nodes
 unfolding devices
 devices_few x = numbers_few false 0 x.desc.nodes
 
+-- so are hosts
 pub hosts_few : (x : Crossbar) → length (hosts x.desc) ≤ length x.desc.nodes
 unfolding hosts
 hosts_few x = numbers_few true 0 x.desc.nodes
 
+-- a host has at most 64 devices
 pub short : (x : Crossbar) → IsCrossbar x → (h : ℕ) → Among h (hosts x.desc) → length (reach x.desc h) ≤ 64
 short x c h i =
     omega (arith, no_longer (reach x.desc h) (devices x.desc) (c.once h i) (devices_once x) (λ d m. c.reaches h d i m), devices_few x, c.few)

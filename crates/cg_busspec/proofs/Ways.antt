@@ -35,6 +35,7 @@ first_found p qs = rw (name_is_itself p.name, same_number p.width) (by p.input) 
   by true = refl
   by false = refl
 
+-- any port is found
 port_found : (p : Port) (ps : List Port) → Among p ps → has_port ps p.input p.width p.name ≡ true
 port_found p [] h = absurd h
 port_found p (q ∷ qs) (inl e) = subst (λ z. has_port (z ∷ qs) p.input p.width p.name ≡ true) e (first_found p qs)
@@ -49,6 +50,7 @@ port_is_named p [] h = absurd h
 port_is_named p (q ∷ qs) (inl e) = inl (ap (λ z. z.name) e)
 port_is_named p (q ∷ qs) (inr h) = inr (port_is_named p qs h)
 
+-- by its number
 number_found : (p : Port) (ps : List Port) → Differ (port_names ps) → Among p ps → slice_get ps (port_number ps p.name) ≡ Some p
 number_found p [] d h = absurd h
 number_found p (q ∷ qs) d (inl e) = rw (← e, name_is_itself p.name) refl
@@ -66,6 +68,7 @@ answer_is start name =
       four : (n : ℕ) → n + 4 - 4 ≡ n
       four n = omega arith
 
+-- a text ends with its end
 ends_so : (a e : List ℕ) → ends_with (a ++ e) e ≡ true
 ends_so [] [] = refl
 ends_so [] (c ∷ e) = rw (name_is_itself (c ∷ e)) refl
@@ -76,9 +79,11 @@ ends_so (c ∷ a) e = rw (ends_so a e) (either (bytes_eq (c ∷ (a ++ e)) e)) wh
 
 -- ---- in and out
 
+-- the crossbar alone
 abbrev one : Crossbar → List Module
 one x = crossbar_module x ∷ []
 
+-- a request comes in at a host's ports
 comes_in_at : (x : Crossbar) (h : ℕ) → Among h (hosts x.desc) → comes_in (crossbar_module x) (h_link x.desc h) ≡ true
 unfolding crossbar_module
 comes_in_at x h i =
@@ -88,6 +93,7 @@ comes_in_at x h i =
       answer_is (codes "h_") (label x.desc h),
     ) (name_is_itself (h_link x.desc h).response)
 
+-- and goes out at a device's
 goes_out_at : (x : Crossbar) (d : ℕ) → Among d (devices x.desc) → goes_out (crossbar_module x) (d_link x.desc d) ≡ true
 unfolding crossbar_module
 goes_out_at x d i =
@@ -101,6 +107,7 @@ goes_out_at x d i =
       end,
     ) refl
 
+-- a host's request is an input
 input_here : (x : Crossbar) (h : ℕ) → Among h (hosts x.desc) → is_among (inputs_of (crossbar_module x).ports) (h_link x.desc h).request ≡ true
 unfolding crossbar_module
 input_here x h i = test_of_among (inputs_of (crossbar_ports x.desc)) (h_link x.desc h).request (input_among (input_port 70 (h_link x.desc h).request) (crossbar_ports x.desc) (host_port_in x h _ i (inl refl)) refl)
@@ -116,6 +123,7 @@ begins x l =
     cond (is_among (inputs_of (crossbar_module x).ports) l.request) (cond (comes_in (crossbar_module x) l) (on (position alone l)) (ends error))
     (host_crossbar (one x) (crossbar_module x) l 0 (crossbar_module x).entries)
 
+-- a walk of a host begins at the host's link
 starts_at : (x : Crossbar) (h : ℕ) → Among h (hosts x.desc) → start (one x) (node x.desc h).name ≡ on (position alone (h_link x.desc h))
 unfolding start
 starts_at x h i = ap (begins x) (host_link_is x h) ∙ entered where
@@ -149,6 +157,7 @@ goes_to x request way a b e step new rest = goes (next_is x request (position al
 abbrev port_of : Crossbar → ℕ → ℕ
 port_of x d = port_number (crossbar_module x).ports (d_link x.desc d).request
 
+-- the way from a device's port
 from_port : (x : Crossbar) (d : ℕ) (request : Bits) (way : List Position) → Among d (devices x.desc) → Way (one x) request way (position alone (d_link x.desc d)) (outside (port_of x d))
 from_port x d request way i =
     ended (next_is x request (position alone (d_link x.desc d) ∷ way) (d_link x.desc d)
@@ -180,6 +189,7 @@ from_lane x c n h d request way i j f true e =
       new true = f.no_m (tail (m_link x.desc d).request) (m_link x.desc d).response
       new false = f.no_d (tail (d_link x.desc d).request) (d_link x.desc d).response
 
+-- the way was not at a link behind the socket
 fresh_lane : (x : Crossbar) (h d : ℕ) (way : List Position) → Fresh way → (b : Bool) → was_at way (position alone (cond b (l_link x.desc h d) (joined_link x.desc d))) ≡ false
 unfolding joined_link
 fresh_lane x h d way f true = f.no_l (tail (l_link x.desc h d).request) (l_link x.desc h d).response
@@ -213,9 +223,11 @@ no_device x a f (e ∷ es) all = rw (all e (inl refl), first_from x a 0 es) (no_
 
 -- ---- from the host's socket
 
+-- the position at a host's socket
 socket_at : Crossbar → ℕ → Position
 socket_at x h = position alone (socket_link x.desc h)
 
+-- the step over a host's socket
 split_step : (x : Crossbar) → IsCrossbar x → NamesDiffer x → (h : ℕ) (request : Bits) (way : List Position) → Among h (hosts x.desc) → length request ≡ 70
     → inside (crossbar_module x) request (held_at alone (position alone (socket_link x.desc h) ∷ way)) (socket_link x.desc h)
     ≡ to_link (slice_get (map (lane x.desc h) (reach x.desc h)) (first_with x (number (address_bits request)) 0 (reach x.desc h)))
@@ -224,6 +236,7 @@ split_step x c n h request way i long =
       here : bytes_eq (socket_link x.desc h).request (socket_link x.desc h).request ≡ true → (bytes_eq (socket_link x.desc h).request (socket_link x.desc h).request || is_among (held_at alone way) (socket_link x.desc h).request) ≡ true
       here e = rw e refl
 
+-- the way from a host's socket to the device with the address
 from_socket : (x : Crossbar) → IsCrossbar x → NamesDiffer x → (h d : ℕ) (request : Bits) (way : List Position) → Among h (hosts x.desc) → Among d (reach x.desc h) → length request ≡ 70
     → some_holds (number (address_bits request)) (device_ranges x d) ≡ true → Fresh (position alone (socket_link x.desc h) ∷ way)
     → Way (one x) request way (position alone (socket_link x.desc h)) (outside (port_of x d))
@@ -233,6 +246,7 @@ from_socket x c n h d request way i j long has f =
     goes_to x request way (socket_link x.desc h) (lane x.desc h d) (outside (port_of x d)) (split_step x c n h request way i long ∙ ap to_link named)
     (fresh_lane x h d (position alone (socket_link x.desc h) ∷ way) f (is_joined x.desc d)) (from_lane x c n h d request (position alone (socket_link x.desc h) ∷ way) i j f (is_joined x.desc d) refl)
 
+-- or to none
 from_socket_none : (x : Crossbar) → IsCrossbar x → NamesDiffer x → (h : ℕ) (request : Bits) (way : List Position) → Among h (hosts x.desc) → length request ≡ 70
     → ((d : ℕ) → Among d (reach x.desc h) → some_holds (number (address_bits request)) (device_ranges x d) ≡ false) → Way (one x) request way (position alone (socket_link x.desc h)) error
 from_socket_none x c n h request way i long all =

@@ -38,10 +38,12 @@ term_sound {e} q r h g = rw (power_is r g (power_few r g)) (by (eqb g.power 32) 
       sound_equal (sound_cut 1 63 (32 + g.power) (32 - g.power) (omega arith) h (omega arith) (omega arith) (omega arith) (omega arith) (omega arith))
       (sound_lit 1 (32 - g.power) (r.base / 2 ^ g.power) (omega arith) (omega arith, omega arith, small))
 
+-- the terms of good ranges are sound
 terms_sound : {e : Above} (q : List ℕ) (rs : List Range) → Has e q 70 → AllOf IsRange rs → SoundParts e 2 (range_terms q rs) (length rs)
 terms_sound q [] h g = sound_none 2
 terms_sound q (r ∷ rs) h g = sound_more (length (r ∷ rs)) (term_sound q r h g.0) (terms_sound q rs h g.1) (omega arith)
 
+-- there is a term
 some_term : (q : List ℕ) (rs : List Range) → IsSomeOf rs → HasPart (range_terms q rs)
 some_term q [] h = absurd h
 some_term q (r ∷ rs) h = tt
@@ -52,6 +54,7 @@ pub record RangesFit (rs : List Range) : Type 0 where
   pub some : IsSomeOf rs
   pub few : length rs < 2 ^ 32
 
+-- a host's select is sound
 pub select_sound : {e : Above} (x : Crossbar) (q : List ℕ) (j : ℕ) (ds : List ℕ) → Has e q 70 → j + length ds ≤ 64 → ((d : ℕ) → Among d ds → RangesFit (device_ranges x d))
     → Sound e (5 + length ds) (select x q j ds) 8
 select_sound x q j [] h few g = sound_lit 5 8 j (omega arith) (omega arith, omega arith, omega arith)
@@ -70,30 +73,37 @@ abbrev pub AllHave : Above → ℕ → List (List ℕ) → Type 0
 AllHave e w [] = Unit {0}
 AllHave e w (n ∷ ns) = Has e n w × AllHave e w ns
 
+-- nets of two lists may be used
 all_have_join : (e : Above) (w : ℕ) (xs ys : List (List ℕ)) → AllHave e w xs → AllHave e w ys → AllHave e w (xs ++ ys)
 all_have_join e w [] ys a b = b
 all_have_join e w (x ∷ xs) ys a b = (a.0, all_have_join e w xs ys a.1 b)
 
+-- in the reverse order too
 all_have_reverse : (e : Above) (w : ℕ) (xs : List (List ℕ)) → AllHave e w xs → AllHave e w (reverse xs)
 all_have_reverse e w [] a = tt
 all_have_reverse e w (x ∷ xs) a = subst (AllHave e w) (sym (reverse-append (x ∷ []) xs)) (all_have_join e w (reverse xs) (x ∷ []) (all_have_reverse e w xs a.1) (a.0, tt))
 
+-- lengths add up
 join_long : (xs ys : List (List ℕ)) → length (xs ++ ys) ≡ length xs + length ys
 join_long [] ys = omega arith
 join_long (x ∷ xs) ys = omega (arith, join_long xs ys)
 
+-- and stay in the reverse order
 reverse_long : (xs : List (List ℕ)) → length (reverse xs) ≡ length xs
 reverse_long [] = refl
 reverse_long (x ∷ xs) = ap length (reverse-append (x ∷ []) xs) ∙ omega (arith, join_long (reverse xs) (x ∷ []), reverse_long xs)
 
+-- nets side by side are sound
 nets_sound : {e : Above} (w : ℕ) (ns : List (List ℕ)) → AllHave e w ns → SoundParts e 1 (expressions (map net ns)) (w * length ns)
 nets_sound {e} w [] a = subst (SoundParts e 1 none) (omega arith) (sound_none 1)
 nets_sound w (n ∷ ns) a = sound_more (w * length (n ∷ ns)) (sound_net 1 (omega arith) a.0) (nets_sound w ns a.1) (omega arith)
 
+-- there is a net
 some_net : (ns : List (List ℕ)) → 0 < length ns → HasPart (expressions (map net ns))
 some_net [] h = absurd (omega arith)
 some_net (n ∷ ns) h = tt
 
+-- a bundle is sound
 pub bundle_sound : {e : Above} (w : ℕ) (ns : List (List ℕ)) → AllHave e w ns → 0 < length ns → length ns ≤ 64 → w ≤ 70 → Sound e 2 (bundle ns) (w * length ns)
 unfolding bundle
 bundle_sound {e} w ns a some few narrow =
@@ -111,31 +121,38 @@ pub record LinkHas (e : Above) (l : Link) : Type 0 where
   pub request : Has e l.request 70
   pub response : Has e l.response 33
 
+-- all links may be used
 abbrev pub LinksHave : Above → List Link → Type 0
 LinksHave e [] = Unit {0}
 LinksHave e (l ∷ ls) = LinkHas e l × LinksHave e ls
 
+-- so may their requests
 requests_have : (e : Above) (ls : List Link) → LinksHave e ls → AllHave e 70 (requests ls)
 requests_have e [] h = tt
 requests_have e (l ∷ ls) h = (h.0.request, requests_have e ls h.1)
 
+-- and their responses
 responses_have : (e : Above) (ls : List Link) → LinksHave e ls → AllHave e 33 (responses ls)
 responses_have e [] h = tt
 responses_have e (l ∷ ls) h = (h.0.response, responses_have e ls h.1)
 
+-- there are as many requests as links
 requests_long : (ls : List Link) → length (requests ls) ≡ length ls
 requests_long [] = refl
 requests_long (l ∷ ls) = ap suc (requests_long ls)
 
+-- and as many responses
 responses_long : (ls : List Link) → length (responses ls) ≡ length ls
 responses_long [] = refl
 responses_long (l ∷ ls) = ap suc (responses_long ls)
 
+-- requests side by side are sound
 requests_sound : (e : Above) (ls : List Link) → LinksHave e ls → 0 < length ls → length ls ≤ 64 → Sound e 2 (bundle (requests ls)) (70 * length ls)
 requests_sound e ls h some few =
     subst (λ z. Sound e 2 (bundle (requests ls)) (70 * z)) (requests_long ls)
     (bundle_sound 70 (requests ls) (requests_have e ls h) (omega (arith, requests_long ls, some)) (omega (arith, requests_long ls, few)) (omega arith))
 
+-- so are responses
 responses_sound : (e : Above) (ls : List Link) → LinksHave e ls → 0 < length ls → length ls ≤ 64 → Sound e 2 (bundle (responses ls)) (33 * length ls)
 responses_sound e ls h some few =
     subst (λ z. Sound e 2 (bundle (responses ls)) (33 * z)) (responses_long ls)
@@ -145,9 +162,11 @@ responses_sound e ls h some few =
 one_low : 1 ≤ 128
 one_low = omega arith
 
+-- a depth of two is low enough
 two_low : {d : ℕ} → d ≤ 2 → d ≤ 128
 two_low h = omega arith
 
+-- a FIFO is sound before sound entries
 pub fifo_sounds : {inputs : List (List ℕ)} {e : Above} {es : List Entry} (name near far : List ℕ) (a b : Link) → IsName name → Has e (clock_net near) 1 → Has e (clock_net far) 1
     → LinkHas e a → LinkHas e b → Sounds inputs e es → Sounds inputs e (fifo_instance name near far a b ∷ es)
 unfolding fifo_instance
@@ -191,6 +210,7 @@ fifo_sounds {inputs} {e} {es} name near far a b n c d ha hb later = record {
   );
 }
 
+-- a 1-to-N socket
 pub split_sounds : {inputs : List (List ℕ)} {e : Above} {es : List Entry} (name clock s : List ℕ) (a : Link) (bs : List Link) → IsName name → Has e (clock_net clock) 1 → Has e s 8
     → LinkHas e a → LinksHave e bs → 0 < length bs → length bs ≤ 64 → Sounds inputs e es → Sounds inputs e (split_instance name clock s a bs ∷ es)
 unfolding split_instance
@@ -239,6 +259,7 @@ split_sounds {inputs} {e} {es} name clock s a bs n c hs ha hb some few later =
       );
     }
 
+-- an M-to-1 socket
 pub join_sounds : {inputs : List (List ℕ)} {e : Above} {es : List Entry} (name clock : List ℕ) (ls : List Link) (b : Link) → IsName name → Has e (clock_net clock) 1
     → LinksHave e ls → LinkHas e b → 0 < length ls → length ls ≤ 64 → Sounds inputs e es → Sounds inputs e (join_instance name clock ls b ∷ es)
 unfolding join_instance

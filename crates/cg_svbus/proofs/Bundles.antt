@@ -10,11 +10,12 @@ use Rattle.cg_svbus.specs.Viewed.{link_of}
 use Rattle.cg_svbus.specs.declared.links.Link.{Link}
 use Rattle.cg_svbus.proofs.Powers.{terms_are}
 
--- the map of a list in the reverse order
-map_join : {A B : Type 0} (f : A → B) (xs ys : List A) → map f (xs ++ ys) ≡ map f xs ++ map f ys
+-- the map of two lists together
+pub map_join : {A B : Type 0} (f : A → B) (xs ys : List A) → map f (xs ++ ys) ≡ map f xs ++ map f ys
 map_join f [] ys = refl
 map_join f (x ∷ xs) ys = ap (λ z. f x ∷ z) (map_join f xs ys)
 
+-- and of a list in the reverse order
 map_reverse : {A B : Type 0} (f : A → B) (xs : List A) → map f (reverse xs) ≡ reverse (map f xs)
 map_reverse f [] = refl
 map_reverse f (x ∷ xs) =

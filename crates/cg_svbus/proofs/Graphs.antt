@@ -16,6 +16,7 @@ use Rattle.cg_nodes.specs.Listed.{numbers_of, hosts_of, devices_of, connects, fe
 use Rattle.cg_nodes.specs.declared.parts.Part.{Part}
 use Rattle.cg_nodes.specs.declared.parts.Part.TheVariants.{HostFifo, Split, Join, DeviceFifo}
 use Rattle.cg_svbus.specs.Viewed.{part_entry}
+use Rattle.cg_svbus.proofs.Bundles.{map_join}
 
 -- ---- nodes by their numbers
 
@@ -84,10 +85,6 @@ join_is x d = ap (λ z. leb 2 (length z)) (feeders_are x d)
 flat_same : {A : Type 0} (f g : ℕ → List A) (is : List ℕ) → ((i : ℕ) → Among i is → f i ≡ g i) → flat_map f is ≡ flat_map g is
 flat_same f g [] same = refl
 flat_same f g (i ∷ is) same = rw (same i (inl refl), flat_same f g is (λ j a. same j (inr a))) refl
-
-map_join : {A B : Type 0} (f : A → B) (xs ys : List A) → map f (xs ++ ys) ≡ map f xs ++ map f ys
-map_join f [] ys = refl
-map_join f (x ∷ xs) ys = ap (λ z. f x ∷ z) (map_join f xs ys)
 
 map_flat : {A B : Type 0} (f : A → B) (g : ℕ → List A) (is : List ℕ) → map f (flat_map g is) ≡ flat_map (λ i. map f (g i)) is
 map_flat f g [] = refl

@@ -117,7 +117,14 @@ pub fn add_fifo(
         ++ fifo_instance name.now near.now far.now (link_of from.now) (link_of to.now) ∷ []) }
 {
     let conns = fifo_connections(alloc, near, far, from, to)?;
-    make::instance(alloc, entries, "tlul_fifo_async", List::new(alloc), name, conns)?;
+    make::instance(
+        alloc,
+        entries,
+        "tlul_fifo_async",
+        List::new(alloc),
+        name,
+        conns,
+    )?;
     Ok(())
 }
 

@@ -39,12 +39,7 @@ pub fn node_link(alloc: Global, stem: &str, xbar: &XbarDesc, number: usize) -> R
 }
 
 /// The link from a host to a device that has an M-to-1 socket.
-pub fn pair_link(
-    alloc: Global,
-    xbar: &XbarDesc,
-    host: usize,
-    device: usize,
-) -> Result<Link, Memory>
+pub fn pair_link(alloc: Global, xbar: &XbarDesc, host: usize, device: usize) -> Result<Link, Memory>
     ensures { IfOk result (λ l. link_of l ≡ l_link xbar.now host device) }
 {
     let host = label(alloc, xbar, host)?;

@@ -48,11 +48,7 @@ fn ports_of(alloc: Global, graph: &Graph) -> Result<List<Port>, Memory>
 
 /// Adds the parts, in the order in which the graph has them.
 #[tactic(auto, using(crate::proofs::Graphs::parts_are))]
-fn add_graph_parts(
-    alloc: Global,
-    entries: &mut List<Entry>,
-    graph: &Graph,
-) -> Result<(), Memory>
+fn add_graph_parts(alloc: Global, entries: &mut List<Entry>, graph: &Graph) -> Result<(), Memory>
     requires { graph.now.parts ≡ parts_of graph.now.desc }
     ensures { OnOk result (map entry_of entries.new ≡ map entry_of entries.old ++ crossbar_parts graph.now.desc) }
 {

@@ -91,7 +91,14 @@ fn add_device_join(
     let name = format!(in alloc; "u_m_{label}")?;
     let from = join_lanes(alloc, xbar, device)?;
     let to = joined_link(alloc, xbar, device)?;
-    add_join(alloc, entries, &name, xbar.clock.as_str(), from.as_slice(), &to)?;
+    add_join(
+        alloc,
+        entries,
+        &name,
+        xbar.clock.as_str(),
+        from.as_slice(),
+        &to,
+    )?;
     Ok(())
 }
 

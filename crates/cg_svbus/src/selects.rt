@@ -110,7 +110,13 @@ fn add_select(
     ensures { OnOk result (map entry_of entries.new ≡ map entry_of entries.old ++ host_select (crossbar_of xbar.now ranges.now) host ∷ []) }
 {
     let link = socket_link(alloc, xbar, host)?;
-    let select = select(alloc, xbar, ranges, link.request.as_str(), reach(xbar, host))?;
+    let select = select(
+        alloc,
+        xbar,
+        ranges,
+        link.request.as_str(),
+        reach(xbar, host),
+    )?;
     let name = select_name(alloc, xbar, host)?;
     make::drive(alloc, entries, 8, name.as_str(), select)?;
     Ok(())

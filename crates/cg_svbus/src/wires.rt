@@ -39,11 +39,7 @@ fn add_host_wires(
 }
 
 /// Adds those of all hosts.
-fn add_hosts_wires(
-    alloc: Global,
-    entries: &mut List<Entry>,
-    xbar: &XbarDesc,
-) -> Result<(), Memory>
+fn add_hosts_wires(alloc: Global, entries: &mut List<Entry>, xbar: &XbarDesc) -> Result<(), Memory>
     ensures { OnOk result (map entry_of entries.new ≡ map entry_of entries.old ++ flat_map (host_wires xbar.now) (hosts xbar.now)) }
 {
     let hosts = hosts(alloc, xbar)?;
@@ -86,11 +82,7 @@ fn add_host_lanes(
 }
 
 /// Adds those of all hosts.
-fn add_hosts_lanes(
-    alloc: Global,
-    entries: &mut List<Entry>,
-    xbar: &XbarDesc,
-) -> Result<(), Memory>
+fn add_hosts_lanes(alloc: Global, entries: &mut List<Entry>, xbar: &XbarDesc) -> Result<(), Memory>
     ensures { OnOk result (map entry_of entries.new ≡ map entry_of entries.old ++ flat_map (host_lanes xbar.now) (hosts xbar.now)) }
 {
     let hosts = hosts(alloc, xbar)?;
@@ -132,11 +124,7 @@ fn add_devices_wires(
 }
 
 /// Adds all links between parts.
-pub fn add_wires(
-    alloc: Global,
-    entries: &mut List<Entry>,
-    xbar: &XbarDesc,
-) -> Result<(), Memory>
+pub fn add_wires(alloc: Global, entries: &mut List<Entry>, xbar: &XbarDesc) -> Result<(), Memory>
     ensures { OnOk result (map entry_of entries.new ≡ map entry_of entries.old ++ crossbar_wires xbar.now) }
 {
     add_hosts_wires(alloc, entries, xbar)?;

@@ -12,6 +12,7 @@ After modules request way p e (ends x) = e ≡ x
 After modules request way p e (meets i j r) =
     (IsFace modules r × (answers r p.link ≡ true) × (e ≡ face i j)) ⊎ ((IsFace modules r × (answers r p.link ≡ false) × (e ≡ error)) ⊎ ((IsFace modules r → ⊥) × (e ≡ no_module)))
 
+-- a way is so
 after : (modules : List Module) (request : Bits) (way : List Position) (p : Position) (e : End) → Way modules request way p e → After modules request way p e (next modules request (p ∷ way) p)
 after modules request way p e (goes step new rest) = subst (After modules request way p e) (sym step) (inl (new, rest))
 after modules request way p e (comes_back step old) = subst (After modules request way p error) (sym step) (inr (old, refl))
@@ -20,10 +21,11 @@ after modules request way p e (reached step is yes_answer) = subst (After module
 after modules request way p e (lost step is no_answer) = subst (After modules request way p error) (sym step) (inr (inl (is, no_answer, refl)))
 after modules request way p e (missing step none) = subst (After modules request way p no_module) (sym step) (inr (inr (none, refl)))
 
--- the same place, both ways
+-- a test has one answer
 not_both : {A : Type 0} (b : Bool) → b ≡ true → b ≡ false → A
 not_both b t f = let u : true ≡ false = sym t ∙ f in cc
 
+-- two ways from one position, over the same ones, have one end
 one_way : (modules : List Module) (request : Bits) (way : List Position) (p : Position) (a b : End) → Way modules request way p a → Way modules request way p b → a ≡ b
 one_way modules request way p a b (goes {q = q} step new rest) w =
     by (λ v. one_way modules request (p ∷ way) q a b rest v) (subst (After modules request way p b) step (after modules request way p b w)) where
@@ -57,10 +59,12 @@ First modules request e (on p) = Way modules request [] p e
 First modules request e (ends x) = e ≡ x
 First modules request e (meets i j r) = ⊥
 
+-- a walk begins so
 first : (modules : List Module) (host : List ℕ) (request : Bits) (e : End) → Walks modules host request e → First modules request e (start modules host)
 first modules host request e (walks begins way) = subst (First modules request e) (sym begins) way
 first modules host request e (never begins) = subst (First modules request e) (sym begins) refl
 
+-- A walk has at most one end.
 pub walk_has_one_end : WalkHasOneEnd
 walk_has_one_end modules host request a b (walks {p = p} begins way) w = one_way modules request [] p a b way (subst (First modules request b) begins (first modules host request b w))
 walk_has_one_end modules host request a b (never begins) w = sym (subst (First modules request b) begins (first modules host request b w))
