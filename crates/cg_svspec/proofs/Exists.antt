@@ -1,4 +1,4 @@
--- A well-formed register module has a valuation: its entries, in their order, give each net its value.
+-- A well-formed module has a valuation: its entries, in their order, give each net its value that no instance drives.
 use Rattle.std.proofs.Common.{◌≡◌, ℕ, Bool, true, false, cond, ◌⊎◌, inl, inr, Option, Some, None, List, [], ◌∷◌, ◌++◌, refl, ap, sym, subst, ◌∙◌, codes}
 use Rattle.std.specs.Str.{bytes_eq}
 use Rattle.cg_svspec.specs.Bits.{Bits}
@@ -6,8 +6,8 @@ use Rattle.cg_svspec.specs.Tree.{Expression, net, cut, lit, cat, inv, any, and, 
 use Rattle.cg_svspec.specs.Names.{Among, Differ, is_among}
 use Rattle.cg_svspec.specs.Printable.{AllOf}
 use Rattle.cg_svspec.specs.Value.{Values, eval, eval_parts, connection_at, flop_name, FlopHolds, AllHold, InputHolds}
-use Rattle.cg_svspec.specs.WellFormed.{Net, Uses, UsesAll, EntriesFit, is_output, driven_nets, driven_by_connections, instance_driven, expression_driven, inputs_of, port_nets, NoneAmong, stated}
-use Rattle.cg_svspec.specs.Register.{IsRegisterEntry, RegisterHasValuation}
+use Rattle.cg_svspec.specs.WellFormed.{Net, Uses, UsesAll, EntriesFit, is_output, driven_nets, driven_by_connections, instance_driven, expression_driven, inputs_of, port_nets, NoneAmong, stated, ModuleHasValuation}
+use Rattle.cg_svspec.specs.Register.{RegisterHasValuation}
 use Rattle.cg_svspec.proofs.NamesLemmas.{name_is_itself, same_name, not_chosen, among_by_test, test_of_among, among_front, among_back, among_parts, differ_front, differ_back, differ_across}
 
 -- ---- values, name by name
@@ -123,13 +123,14 @@ abbrev next_by : Values → Option Expression → Option Expression → List ℕ
 next_by v (Some d) (Some (net q)) n later = cond (bytes_eq n q) (eval v d) later
 next_by v _ _ n later = later
 
--- the next states, by the first instance that has the name at `q_o`
+-- the next states, by the first flip-flop that has the name at `q_o`
 abbrev next_states : Values → List Entry → Values
 next_states v [] n = []
 next_states v (wire w k ∷ es) n = next_states v es n
 next_states v (drive w k x ∷ es) n = next_states v es n
 next_states v (assign k x ∷ es) n = next_states v es n
-next_states v (inst m ps k cs ∷ es) n = next_by v (connection_at (codes "d_i") cs) (connection_at (codes "q_o") cs) n (next_states v es n)
+next_states v (inst m ps k cs ∷ es) n =
+    cond (bytes_eq m flop_name) (next_by v (connection_at (codes "d_i") cs) (connection_at (codes "q_o") cs) n (next_states v es n)) (next_states v es n)
 
 -- an output of a flip-flop is a connection whose name ends so
 is_flop_output : (inputs : List (List ℕ)) (m : List ℕ) (c : Connection) → bytes_eq m flop_name ≡ true → bytes_eq c.name (codes "q_o") ≡ true → is_output inputs m c ≡ true
@@ -193,26 +194,49 @@ next_from_below v (Some d) (Some (or x y)) n later other = refl
 next_from_below v (Some d) (Some (equal x y)) n later other = refl
 next_from_below v (Some d) (Some (pick c x y)) n later other = refl
 
--- all entries hold, where the expressions do
-all_hold : (inputs : List (List ℕ)) (v state next : Values) (es : List Entry) → AllOf IsRegisterEntry es → Differ (instance_driven inputs es) → AtStates inputs v state next es
-    → ExpressionsHold v es → AllHold v state next es
-all_hold inputs v state next [] flops d at holds = tt
-all_hold inputs v state next (wire w n ∷ es) flops d at holds = (tt, all_hold inputs v state next es flops.1 d (record { values = at.values; nexts = at.nexts }) holds)
-all_hold inputs v state next (drive w n x ∷ es) flops d at holds = (holds.0, all_hold inputs v state next es flops.1 d (record { values = at.values; nexts = at.nexts }) holds.1)
-all_hold inputs v state next (assign n x ∷ es) flops d at holds = (holds.0, all_hold inputs v state next es flops.1 d (record { values = at.values; nexts = at.nexts }) holds.1)
-all_hold inputs v state next (inst m ps k cs ∷ es) flops d at holds =
+-- an instance holds, and those behind it keep what is asked of the states: of a flip-flop
+flop_at : (inputs : List (List ℕ)) (v state next : Values) (m : List ℕ) (cs : List Connection) (es : List Entry) → bytes_eq m flop_name ≡ true
+    → Differ (driven_by_connections inputs m cs ++ instance_driven inputs es)
+    → ((n : List ℕ) → Among n (driven_by_connections inputs m cs ++ instance_driven inputs es) → v n ≡ state n)
+    → ((n : List ℕ) → Among n (driven_by_connections inputs m cs ++ instance_driven inputs es)
+    → next n ≡ next_by v (connection_at (codes "d_i") cs) (connection_at (codes "q_o") cs) n (next_states v es n))
+    → FlopHolds v state next (connection_at (codes "d_i") cs) (connection_at (codes "q_o") cs) × AtStates inputs v state next es
+flop_at inputs v state next m cs es part d values nexts =
     let here = driven_by_connections inputs m cs in
     let below = instance_driven inputs es in (
-      subst (λ b. cond b (FlopHolds v state next (connection_at (codes "d_i") cs) (connection_at (codes "q_o") cs)) (Unit {0})) (sym flops.0.0)
-          (flop_holds v state next (connection_at (codes "d_i") cs) (connection_at (codes "q_o") cs) es here (λ n is. q_is_driven inputs m cs n flops.0.0 is)
-          (λ n a. at.values n (among_front n here below a)) (λ n a. at.nexts n (among_front n here below a))),
-      all_hold inputs v state next es flops.1 (differ_back here below d) (record {
-        values = λ n a. at.values n (among_back n here below a);
-        nexts = λ n a. at.nexts n (among_back n here below a)
+      flop_holds v state next (connection_at (codes "d_i") cs) (connection_at (codes "q_o") cs) es here (λ n is. q_is_driven inputs m cs n part is)
+          (λ n a. values n (among_front n here below a)) (λ n a. nexts n (among_front n here below a)),
+      record {
+        values = λ n a. values n (among_back n here below a);
+        nexts = λ n a. nexts n (among_back n here below a)
             ∙ next_from_below v (connection_at (codes "d_i") cs) (connection_at (codes "q_o") cs) n (next_states v es n)
-            (λ q is e. differ_across n here below d (subst (λ z. Among z here) (sym e) (q_is_driven inputs m cs q flops.0.0 is)) a);
-      }) holds,
+            (λ q is e. differ_across n here below d (subst (λ z. Among z here) (sym e) (q_is_driven inputs m cs q part is)) a);
+      },
     )
+
+-- of any instance
+instance_at : (inputs : List (List ℕ)) (v state next : Values) (m : List ℕ) (cs : List Connection) (es : List Entry) (b : Bool) → bytes_eq m flop_name ≡ b
+    → Differ (driven_by_connections inputs m cs ++ instance_driven inputs es)
+    → ((n : List ℕ) → Among n (driven_by_connections inputs m cs ++ instance_driven inputs es) → v n ≡ state n)
+    → ((n : List ℕ) → Among n (driven_by_connections inputs m cs ++ instance_driven inputs es)
+    → next n ≡ cond b (next_by v (connection_at (codes "d_i") cs) (connection_at (codes "q_o") cs) n (next_states v es n)) (next_states v es n))
+    → cond b (FlopHolds v state next (connection_at (codes "d_i") cs) (connection_at (codes "q_o") cs)) (Unit {0}) × AtStates inputs v state next es
+instance_at inputs v state next m cs es true part d values nexts = flop_at inputs v state next m cs es part d values nexts
+instance_at inputs v state next m cs es false part d values nexts =
+    let here = driven_by_connections inputs m cs in
+    let below = instance_driven inputs es in
+    (tt, record { values = λ n a. values n (among_back n here below a); nexts = λ n a. nexts n (among_back n here below a) })
+
+-- all entries hold, where the expressions do
+all_hold : (inputs : List (List ℕ)) (v state next : Values) (es : List Entry) → Differ (instance_driven inputs es) → AtStates inputs v state next es → ExpressionsHold v es
+    → AllHold v state next es
+all_hold inputs v state next [] d at holds = tt
+all_hold inputs v state next (wire w n ∷ es) d at holds = (tt, all_hold inputs v state next es d (record { values = at.values; nexts = at.nexts }) holds)
+all_hold inputs v state next (drive w n x ∷ es) d at holds = (holds.0, all_hold inputs v state next es d (record { values = at.values; nexts = at.nexts }) holds.1)
+all_hold inputs v state next (assign n x ∷ es) d at holds = (holds.0, all_hold inputs v state next es d (record { values = at.values; nexts = at.nexts }) holds.1)
+all_hold inputs v state next (inst m ps k cs ∷ es) d at holds =
+    let both = instance_at inputs v state next m cs es (bytes_eq m flop_name) refl d at.values at.nexts in
+    (both.0, all_hold inputs v state next es (differ_back (driven_by_connections inputs m cs) (instance_driven inputs es) d) both.1 holds)
 
 -- ---- the whole
 
@@ -236,9 +260,9 @@ inputs_hold v inputs (p ∷ ps) same = by (inputs_hold v inputs ps) p.input same
 abbrev start : List (List ℕ) → Values → Values → Values
 start driven inputs state = λ n. cond (is_among driven n) (state n) (inputs n)
 
--- A well-formed register module has a valuation.
-pub has_valuation : RegisterHasValuation
-has_valuation m well is inputs state fits =
+-- A well-formed module has a valuation.
+pub module_has_valuation : ModuleHasValuation
+module_has_valuation m well inputs state =
     let ins = inputs_of m.ports in
     let driven = instance_driven ins m.entries in
     let given = expression_driven m.entries in
@@ -257,11 +281,16 @@ has_valuation m well is inputs state fits =
       next,
       record {
         inputs_hold = inputs_hold v inputs m.ports at_inputs;
-        entries_hold = all_hold ins v state next m.entries is.entries (differ_back given driven well.drivers_differ) (record { values = at_states; nexts = λ n a. refl })
+        entries_hold = all_hold ins v state next m.entries (differ_back given driven well.drivers_differ) (record { values = at_states; nexts = λ n a. refl })
             (expressions_hold first (ins ++ driven) m.entries order);
       },
+      at_states,
     ) where
       either : (n : List ℕ) → Among n (expression_driven m.entries) → Among n (inputs_of m.ports) ⊎ Among n (instance_driven (inputs_of m.ports) m.entries) → ⊥
       either n a (inl b) = none_of n (inputs_of m.ports) (expression_driven m.entries ++ instance_driven (inputs_of m.ports) m.entries) well.inputs_free b
           (among_front n (expression_driven m.entries) (instance_driven (inputs_of m.ports) m.entries) a)
       either n a (inr b) = differ_across n (expression_driven m.entries) (instance_driven (inputs_of m.ports) m.entries) well.drivers_differ a b
+
+-- So has a register module.
+pub has_valuation : RegisterHasValuation
+has_valuation m well is inputs state fits = let found = module_has_valuation m well inputs state in (found.0, found.1, found.2)

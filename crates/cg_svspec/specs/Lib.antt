@@ -11,3 +11,5 @@ pub mod Value
 pub mod WellFormed
 pub mod Register
 pub mod Parse
+pub mod Links
+pub mod Walk

@@ -5,7 +5,7 @@ use Rattle.std.specs.Str.{bytes_eq}
 use Rattle.cg_svspec.specs.Tree.{Expression, net, cut, lit, cat, inv, any, and, or, equal, pick, Expressions, none, more, Port, Parameter, Connection, Entry, wire, drive, assign, inst, Module}
 use Rattle.cg_svspec.specs.Names.{Among, Differ, is_among, module_names}
 use Rattle.cg_svspec.specs.Printable.{IsPrintable, AllOf}
-use Rattle.cg_svspec.specs.Value.{connection_at, parameter_at, flop_name}
+use Rattle.cg_svspec.specs.Value.{Values, Valuation, connection_at, parameter_at, flop_name}
 
 -- ---- nets and widths
 
@@ -274,3 +274,13 @@ pub record WellFormed (m : Module) : Type 0 where
   pub outputs_driven : AllAmong (outputs_of m.ports) (drivers_of m)
   pub wires_driven : AllAmong (wires_of m.entries) (drivers_of m)
   pub inputs_free : NoneAmong (inputs_of m.ports) (drivers_of m)
+
+-- the module has a valuation for all inputs and all values of the nets that instances drive, its states among them
+abbrev pub HasValuation : Module → Type 0
+HasValuation m =
+    (inputs given : Values)
+    → (v : Values) × (next : Values) × Valuation m inputs given v next × ((n : List ℕ) → Among n (instance_driven (inputs_of m.ports) m.entries) → v n ≡ given n)
+
+-- a well-formed module has one
+abbrev pub ModuleHasValuation : Type 0
+ModuleHasValuation = (m : Module) → WellFormed m → HasValuation m

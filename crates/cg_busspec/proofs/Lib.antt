@@ -1,0 +1,26 @@
+pub mod Good
+pub mod Numbers
+pub mod Selects
+pub mod PartWays
+pub mod NumberLists
+pub mod Places
+pub mod Owners
+pub mod Knows
+pub mod Sums
+pub mod Steps
+pub mod Ways
+pub mod Balance
+pub mod WellLinks
+pub mod WellParts
+pub mod WellModule
+pub mod Passages
+pub mod Described
+pub mod Members
+pub mod Accepted
+pub mod Named
+pub mod Meant
+pub mod Standing
+pub mod SelectValues
+pub mod Law
+pub mod Examples
+mod GoodExample

@@ -1,0 +1,6 @@
+pub mod Labels
+pub mod NodeLists
+pub mod Powers
+pub mod Bundles
+pub mod Made
+pub mod Graphs
