@@ -176,6 +176,16 @@ shows_qe r f = cond r.hwext (is_writable f.sw) r.hwqe
 abbrev pub shows_re : RegDesc → FieldDesc → Bool
 shows_re r f = cond r.hwext (is_readable f.sw) r.hwre
 
+-- ---- what hardware brings
+
+-- a value for a stored field that it writes, and for one of an external register that software reads
+abbrev pub brings_d : RegDesc → FieldDesc → Bool
+brings_d r f = cond r.hwext (is_readable f.sw) (hardware_writes f.hw)
+
+-- a strobe with it, for a stored field
+abbrev pub brings_de : RegDesc → FieldDesc → Bool
+brings_de r f = not r.hwext && hardware_writes f.hw
+
 -- ---- the step
 
 -- what comes of a clock: the response, the stored fields after it, and what hardware sees
