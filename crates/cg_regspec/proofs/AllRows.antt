@@ -11,7 +11,7 @@ use Rattle.cg_desc.specs.declared.block.LaidFace.{LaidFace}
 use Rattle.cg_regspec.specs.NetNames.{rd}
 use Rattle.cg_regspec.specs.RegisterModule.{row_entries, rows_entries, all_ones}
 use Rattle.cg_regspec.specs.Meaning.{fields_in, hardware_in}
-use Rattle.cg_regspec.proofs.Parts.{hold_back}
+use Rattle.cg_svspec.proofs.Parts.{hold_back}
 use Rattle.cg_regspec.proofs.Targets.{AtTheirRows, at_rows}
 use Rattle.cg_regspec.proofs.Wires.{CarryAccess, RowsWires}
 use Rattle.cg_regspec.proofs.Rows.{RowHolds, row_holds}

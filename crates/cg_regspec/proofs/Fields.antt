@@ -15,8 +15,8 @@ use Rattle.cg_desc.specs.declared.block.LaidFace.{LaidFace}
 use Rattle.cg_regspec.specs.NetNames.{reg_wdata, we, re, state_net, hold_net, q_net, qe_net, re_net, d_net, de_net}
 use Rattle.cg_regspec.specs.RegisterModule.{width_of, takes_d, written_bits, next_of, entry_if, field_views, field_updates, field_entries, fields_entries}
 use Rattle.cg_regspec.specs.Meaning.{bit_of, fields_in, hardware_in, outcome_in}
-use Rattle.cg_regspec.proofs.BitLists.{bits-zero, bits-ones}
-use Rattle.cg_regspec.proofs.Parts.{hold_front, hold_back}
+use Rattle.cg_svspec.proofs.BitLists.{bits-zero, bits-ones}
+use Rattle.cg_svspec.proofs.Parts.{hold_front, hold_back}
 use Rattle.cg_regspec.proofs.Wires.{CarryAccess, FieldWires}
 use Rattle.cg_regspec.proofs.Items.{slice_is}
 

@@ -18,7 +18,7 @@ use Rattle.cg_desc.specs.declared.block.WindowDesc.{WindowDesc}
 use Rattle.cg_desc.specs.declared.block.Item.TheVariants.{Reg, Window}
 use Rattle.cg_regspec.specs.NetNames.{reg_addr}
 use Rattle.cg_regspec.specs.RegisterModule.{window_terms, hit_of}
-use Rattle.cg_regspec.proofs.BitLists.{any_bit-append, any_bit-one, same_bits-bits, take_whole, length-bits, drop-bits}
+use Rattle.cg_svspec.proofs.BitLists.{any_bit-append, any_bit-one, same_bits-bits, take_whole, length-bits, drop-bits}
 
 -- a word of those from `first` on
 abbrev within : ℕ → ℕ → ℕ → Bool

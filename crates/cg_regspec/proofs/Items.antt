@@ -17,7 +17,7 @@ use Rattle.cg_desc.specs.declared.block.LaidFace.{LaidFace}
 use Rattle.cg_regspec.specs.NetNames.{reg_be}
 use Rattle.cg_regspec.specs.RegisterModule.{slice, lacks_strobe}
 use Rattle.cg_regspec.specs.Meaning.{fields_in, hardware_in}
-use Rattle.cg_regspec.proofs.BitLists.{any_bit-not, take_whole}
+use Rattle.cg_svspec.proofs.BitLists.{any_bit-not, take_whole}
 use Rattle.cg_regspec.proofs.Hits.{register_hit, window_hit}
 use Rattle.cg_regspec.proofs.Wires.{CarryAccess, ItemWires, RowsWires}
 use Rattle.cg_regspec.proofs.Words.{register_word}

@@ -1,5 +1,3 @@
-pub mod BitLists
-pub mod Parts
 pub mod Targets
 pub mod Hits
 pub mod Wires
@@ -14,9 +12,8 @@ pub mod Steps
 pub mod Resets
 pub mod Means
 pub mod WellNames
-pub mod WellCounts
 pub mod WellDrivers
-pub mod WellSound
+pub mod WellSlices
 pub mod WellRows
 pub mod WellPorts
 pub mod WellGiven

@@ -14,7 +14,7 @@ use Rattle.cg_desc.specs.declared.block.LaidFace.{LaidFace}
 use Rattle.cg_regspec.specs.NetNames.{rd, state_net}
 use Rattle.cg_regspec.specs.RegisterModule.{width_of, register_module, entry_if, states_of, item_states, rows_states, rows_entries, all_ones, answer_entries, field_updates, field_views, field_entries, fields_entries, item_fields, rows_fields, item_windows, rows_windows, flops_of, item_flops, rows_flops}
 use Rattle.cg_regspec.specs.Meaning.{ItemIsReset, FieldsAreReset}
-use Rattle.cg_regspec.proofs.Parts.{all_front, all_back, all_join}
+use Rattle.cg_svspec.proofs.Parts.{all_front, all_back, all_join}
 
 -- ---- from the states at reset
 

@@ -16,7 +16,7 @@ use Rattle.cg_desc.specs.declared.block.LaidFace.{LaidFace}
 use Rattle.cg_regspec.specs.NetNames.{rd}
 use Rattle.cg_regspec.specs.RegisterModule.{register_module, rows_ports, rows_states, rows_entries, all_ones, answer_entries, item_fields, rows_fields, item_windows, rows_windows, rows_flops}
 use Rattle.cg_regspec.specs.Meaning.{Carries, fields_in, hardware_in, outcome_in}
-use Rattle.cg_regspec.proofs.Parts.{hold_front, hold_back, all_front, all_back}
+use Rattle.cg_svspec.proofs.Parts.{hold_front, hold_back, all_front, all_back}
 use Rattle.cg_regspec.proofs.Wires.{CarryAccess, ItemWires, RowsWires, rows_wires}
 use Rattle.cg_regspec.proofs.Rows.{RowHolds}
 use Rattle.cg_regspec.proofs.AllRows.{RowsHold, rows_hold}

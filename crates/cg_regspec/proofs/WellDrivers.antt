@@ -13,8 +13,8 @@ use Rattle.cg_desc.specs.declared.block.LaidRow.{LaidRow}
 use Rattle.cg_desc.specs.declared.block.LaidFace.{LaidFace}
 use Rattle.cg_regspec.specs.NetNames.{reg_error, reg_rdata, state_net, q_net, qe_net, re_net, d_net, de_net}
 use Rattle.cg_regspec.specs.RegisterModule.{width_of, port_if, takes_d, takes_de, field_ports, fields_ports, item_ports, rows_ports, states_of, item_states, rows_states, rows_entries, all_ones, answer_entries, entry_if, field_views, field_updates, field_entries, fields_entries, item_fields, rows_fields, item_windows, rows_windows, flops_of, item_flops, rows_flops, register_entries, register_module}
-use Rattle.cg_regspec.proofs.Parts.{all_join}
-use Rattle.cg_regspec.proofs.WellCounts.{count, count-append, plain_of, assigned_of, Balanced}
+use Rattle.cg_svspec.proofs.Parts.{all_join}
+use Rattle.cg_svspec.proofs.WellCounts.{count, count-append, plain_of, assigned_of, Balanced}
 
 -- ---- lists put together
 
@@ -323,7 +323,10 @@ module_assigned face =
 pub module_balanced : (name : List ℕ) (face : LaidFace) → Balanced (register_module name face)
 unfolding register_module
 module_balanced name face = record {
-  states = λ n. ap (count n) (module_instances (inputs_of (register_module name face).ports) face ∙ sym (module_plain face));
-  outputs = λ n. ap (count n) (module_assigned face)
-      ∙ omega (arith, count-append n (assigned_of (rows_fields 0 face.rows)) (assigned_of (rows_windows 0 face.rows)), rows_outputs n 0 face.rows);
+  driven = λ n.
+      let instances : count n (instance_driven (inputs_of (register_module name face).ports) (register_entries face)) ≡ count n (plain_of (register_entries face)) =
+      ap (count n) (module_instances (inputs_of (register_module name face).ports) face ∙ sym (module_plain face)) in
+      let outputs : count n (assigned_of (register_entries face)) ≡ count n (outputs_of (register_module name face).ports) =
+      ap (count n) (module_assigned face) ∙ omega (arith, count-append n (assigned_of (rows_fields 0 face.rows)) (assigned_of (rows_windows 0 face.rows)), rows_outputs n 0 face.rows) in
+      omega (arith, instances, outputs);
 }

@@ -12,8 +12,9 @@ use Rattle.cg_desc.specs.declared.block.Item.TheVariants.{Reg, Window, SkipTo, R
 use Rattle.cg_desc.specs.declared.block.LaidRow.{LaidRow}
 use Rattle.cg_regspec.specs.NetNames.{reg_we, reg_re, reg_error, hit_any, wbad_any, rbad_any, hit, wbad, rbad, we, re, rd, state_net}
 use Rattle.cg_regspec.specs.RegisterModule.{width_of, states_of, item_states, rows_states, rows_entries, all_ones, last_rd, highest_first, refused, answer_entries}
-use Rattle.cg_regspec.proofs.WellNames.{literal_name, row_name, field_name}
-use Rattle.cg_regspec.proofs.WellSound.{Above, Up, Has, up_up, declared_up, has_up, Sound, SoundParts, sound_deeper, sound_net, sound_lit, sound_inv, sound_any, sound_and, sound_or, sound_pick, sound_none, sound_more, HasPart, sound_cat, with_wire, with_drive, with_assign, after, up_drive, up_assign, drive_has, Sounds, sounds_none, sounds_wire, sounds_drive, sounds_assign, sounds_join, GivenBy}
+use Rattle.cg_svspec.proofs.WellNames.{literal_name}
+use Rattle.cg_regspec.proofs.WellNames.{row_name, field_name}
+use Rattle.cg_svspec.proofs.WellSound.{Above, Up, Has, up_up, declared_up, has_up, Sound, SoundParts, sound_deeper, sound_net, sound_lit, sound_inv, sound_any, sound_and, sound_or, sound_pick, sound_none, sound_more, HasPart, sound_cat, with_wire, with_drive, with_assign, after, up_drive, up_assign, drive_has, Sounds, sounds_none, sounds_wire, sounds_drive, sounds_assign, sounds_join, GivenBy}
 use Rattle.cg_regspec.proofs.WellRows.{FieldFits, field_width, ItemOk, RowsOk}
 use Rattle.cg_regspec.proofs.WellGiven.{AccessGiven, RowsGiven}
 use Rattle.cg_regspec.proofs.WellHits.{hit_sound, write_refused_sound, read_refused_sound, gate_sound, item_word_sound}

@@ -16,7 +16,8 @@ use Rattle.cg_desc.specs.declared.block.LaidRow.{LaidRow}
 use Rattle.cg_regspec.specs.NetNames.{reg_wdata, we, re, state_net, hold_net, next_net, q_net, qe_net, re_net, d_net, de_net, window_we, window_re, window_addr, window_wdata}
 use Rattle.cg_regspec.specs.RegisterModule.{width_of, written_bits, zero_bits, one_bits, next_of, hold_of, entry_if, field_views, field_updates, field_entries, fields_entries, item_fields, rows_fields, item_windows, rows_windows}
 use Rattle.cg_regspec.proofs.WellNames.{field_name}
-use Rattle.cg_regspec.proofs.WellSound.{Above, Up, Declared, Has, up_up, declared_up, has_up, Sound, sound_deeper, sound_net, sound_lit, sound_inv, sound_and, sound_or, sound_pick, sound_slice, with_drive, with_assign, after, up_drive, up_assign, up_after, drive_has, Sounds, sounds_none, sounds_drive, sounds_assign, sounds_join}
+use Rattle.cg_svspec.proofs.WellSound.{Above, Up, Declared, Has, up_up, declared_up, has_up, Sound, sound_deeper, sound_net, sound_lit, sound_inv, sound_and, sound_or, sound_pick, with_drive, with_assign, after, up_drive, up_assign, up_after, drive_has, Sounds, sounds_none, sounds_drive, sounds_assign, sounds_join}
+use Rattle.cg_regspec.proofs.WellSlices.{sound_slice}
 use Rattle.cg_regspec.proofs.WellRows.{FieldFits, field_some, field_narrow, field_width, ItemOk, RowsOk}
 use Rattle.cg_regspec.proofs.WellGiven.{AccessGiven, FieldGiven, WindowGiven, ItemGiven, RowsGiven}
 use Rattle.cg_regspec.proofs.WellEntries.{RowHas, RowsHave}

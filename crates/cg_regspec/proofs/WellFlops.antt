@@ -13,9 +13,10 @@ use Rattle.cg_desc.specs.declared.block.Item.TheVariants.{Reg, Window, SkipTo, R
 use Rattle.cg_desc.specs.declared.block.LaidRow.{LaidRow}
 use Rattle.cg_regspec.specs.NetNames.{state_net, next_net}
 use Rattle.cg_regspec.specs.RegisterModule.{width_of, field_views, field_updates, field_entries, fields_entries, item_fields, rows_fields, flop_of, flops_of, item_flops, rows_flops}
-use Rattle.cg_regspec.proofs.Parts.{all_front, all_back}
-use Rattle.cg_regspec.proofs.WellNames.{literal_name, flop_instance_name}
-use Rattle.cg_regspec.proofs.WellSound.{Above, Up, Has, up_up, has_up, after, up_after, Sounds, sounds_none, sounds_join, GivenBy}
+use Rattle.cg_svspec.proofs.Parts.{all_front, all_back}
+use Rattle.cg_svspec.proofs.WellNames.{literal_name}
+use Rattle.cg_regspec.proofs.WellNames.{flop_instance_name}
+use Rattle.cg_svspec.proofs.WellSound.{Above, Up, Has, up_up, has_up, after, up_after, Sounds, sounds_none, sounds_join, GivenBy}
 use Rattle.cg_regspec.proofs.WellRows.{FieldFits, field_some, field_narrow, ItemOk, RowsOk}
 use Rattle.cg_regspec.proofs.WellGiven.{AccessGiven, FieldGiven, ItemGiven, RowsGiven}
 

@@ -14,9 +14,9 @@ use Rattle.cg_desc.specs.declared.block.Item.TheVariants.{Reg, Window, SkipTo, R
 use Rattle.cg_desc.specs.declared.block.LaidRow.{LaidRow}
 use Rattle.cg_regspec.specs.NetNames.{reg_we, reg_re, reg_addr, reg_wdata, reg_be, reg_rdata, reg_error, state_net, q_net, qe_net, re_net, d_net, de_net, window_we, window_re, window_addr, window_wdata, window_be, window_rdata}
 use Rattle.cg_regspec.specs.RegisterModule.{width_of, port_if, takes_d, takes_de, field_ports, fields_ports, item_ports, rows_ports, states_of, item_states, rows_states}
-use Rattle.cg_regspec.proofs.Parts.{all_front, all_back}
-use Rattle.cg_regspec.proofs.WellCounts.{plain_of}
-use Rattle.cg_regspec.proofs.WellSound.{Above, Declared, Has, GivenBy}
+use Rattle.cg_svspec.proofs.Parts.{all_front, all_back}
+use Rattle.cg_svspec.proofs.WellCounts.{plain_of}
+use Rattle.cg_svspec.proofs.WellSound.{Above, Declared, Has, GivenBy}
 
 -- ---- from ports and states
 

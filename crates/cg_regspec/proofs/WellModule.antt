@@ -16,10 +16,10 @@ use Rattle.cg_desc.specs.declared.block.Item.TheVariants.{Reg, Window, SkipTo, R
 use Rattle.cg_desc.specs.declared.block.LaidRow.{LaidRow}
 use Rattle.cg_desc.specs.declared.block.LaidFace.{LaidFace}
 use Rattle.cg_regspec.specs.RegisterModule.{rows_ports, states_of, item_states, rows_states, rows_entries, all_ones, answer_entries, rows_fields, rows_windows, flops_of, item_flops, rows_flops, register_entries, register_module}
-use Rattle.cg_regspec.proofs.Parts.{all_back, all_join}
-use Rattle.cg_regspec.proofs.WellCounts.{balanced_drivers_differ, balanced_outputs_driven, balanced_wires_driven, balanced_inputs_free}
+use Rattle.cg_svspec.proofs.Parts.{all_back, all_join}
+use Rattle.cg_svspec.proofs.WellCounts.{balanced_drivers_differ, balanced_outputs_driven, balanced_wires_driven, balanced_inputs_free}
 use Rattle.cg_regspec.proofs.WellDrivers.{IsDriven, rows_driven, answers_driven, rows_fields_driven, rows_windows_driven, module_instances, module_balanced}
-use Rattle.cg_regspec.proofs.WellSound.{Above, Up, same_up, up_up, after, up_after, Sounds, sounds_join, all_given}
+use Rattle.cg_svspec.proofs.WellSound.{Above, Up, same_up, up_up, after, up_after, Sounds, sounds_join, all_given}
 use Rattle.cg_regspec.proofs.WellRows.{FieldFits, field_narrow, ItemOk, RowsOk, rows_few, rows_ok}
 use Rattle.cg_regspec.proofs.WellPorts.{PortFits, rows_ports_fit, ports_printable, ports_narrow, access_ports_fit}
 use Rattle.cg_regspec.proofs.WellGiven.{PortGiven, ports_given, states_given, access_given, rows_given}

@@ -13,8 +13,9 @@ use Rattle.cg_desc.specs.declared.block.Item.TheVariants.{Reg, Window, SkipTo, R
 use Rattle.cg_desc.specs.declared.block.LaidRow.{LaidRow}
 use Rattle.cg_regspec.specs.NetNames.{q_net, qe_net, re_net, d_net, de_net}
 use Rattle.cg_regspec.specs.RegisterModule.{width_of, port_if, takes_d, takes_de, field_ports, fields_ports, window_ports, item_ports, rows_ports}
-use Rattle.cg_regspec.proofs.Parts.{all_join}
-use Rattle.cg_regspec.proofs.WellNames.{literal_name, field_name, window_name}
+use Rattle.cg_svspec.proofs.Parts.{all_join}
+use Rattle.cg_svspec.proofs.WellNames.{literal_name}
+use Rattle.cg_regspec.proofs.WellNames.{field_name, window_name}
 use Rattle.cg_regspec.proofs.WellRows.{FieldFits, field_width, field_narrow, ItemOk, RowsOk}
 
 -- a printable port of at most 32 bits

@@ -13,7 +13,7 @@ use Rattle.cg_desc.specs.declared.block.Item.TheVariants.{Reg, Window, SkipTo, R
 use Rattle.cg_desc.specs.declared.block.LaidRow.{LaidRow}
 use Rattle.cg_regspec.specs.NetNames.{reg_we, reg_re, reg_addr, reg_wdata, reg_be, state_net, next_net, q_net, qe_net, re_net, d_net, de_net, window_rdata}
 use Rattle.cg_regspec.specs.RegisterModule.{width_of, takes_d, takes_de, port_if, field_ports, fields_ports, item_ports, rows_ports, flops_of, item_flops, rows_flops}
-use Rattle.cg_regspec.proofs.Parts.{hold_front, hold_back, all_front, all_back}
+use Rattle.cg_svspec.proofs.Parts.{hold_front, hold_back, all_front, all_back}
 
 -- the nets carry the access
 pub record CarryAccess (v : Values) (a : Access) : Type 0 where

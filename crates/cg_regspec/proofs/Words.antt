@@ -10,7 +10,7 @@ use Rattle.cg_desc.specs.declared.block.RegDesc.{RegDesc}
 use Rattle.cg_regspec.specs.NetNames.{state_net, d_net}
 use Rattle.cg_regspec.specs.RegisterModule.{width_of, gap, shown_part, word_parts}
 use Rattle.cg_regspec.specs.Meaning.{fields_in, hardware_in}
-use Rattle.cg_regspec.proofs.BitLists.{bits-zero}
+use Rattle.cg_svspec.proofs.BitLists.{bits-zero}
 use Rattle.cg_regspec.proofs.Wires.{FieldWires, RegisterWires}
 
 -- a gap shows zeros

@@ -12,3 +12,8 @@ pub mod ModulesBack
 pub mod Examples
 pub mod NamesLemmas
 pub mod Exists
+pub mod Parts
+pub mod BitLists
+pub mod WellNames
+pub mod WellCounts
+pub mod WellSound
