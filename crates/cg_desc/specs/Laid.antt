@@ -2,6 +2,7 @@
 use Rattle.std.specs.Prelude.{◌≡◌, ℕ, suc, ◌+◌, ◌-◌, ◌*◌, ◌^◌, ◌<◌, ◌≤◌, true, false, List, [], ◌∷◌, Option, Some, None}
 use Rattle.cg_svspec.specs.Characters.{IsWord}
 use Rattle.cg_desc.specs.AccessTable.{is_readable}
+use Rattle.cg_desc.specs.Target.{row_end}
 use Rattle.cg_desc.specs.BlockStep.{register_named}
 use Rattle.cg_desc.specs.declared.block.SwAccess.{SwAccess}
 use Rattle.cg_desc.specs.declared.block.SwAccess.TheVariants.{Ro, Rw, Wo}
@@ -78,7 +79,7 @@ RowFits rows row = ItemFits row.item where
 -- the rows stand in the order of their offsets, from this offset on, and none reaches into the next
 abbrev pub RowsFit : List LaidRow → ℕ → List LaidRow → Type 0
 RowsFit all low [] = low ≤ 2 ^ 24
-RowsFit all low (row ∷ rows) = (low ≤ row.first) × RowFits all row × RowsFit all (row.first + 4 * row.words) rows
+RowsFit all low (row ∷ rows) = (low ≤ row.first) × RowFits all row × RowsFit all (row_end row) rows
 
 abbrev pub HasRow : List LaidRow → Type 0
 HasRow [] = ⊥

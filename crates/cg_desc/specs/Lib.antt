@@ -2,6 +2,7 @@ pub mod AccessTable
 pub mod Target
 pub mod Address
 pub mod BlockStep
+pub mod BlockRun
 pub mod Laid
 pub mod Items
 pub mod Offsets
