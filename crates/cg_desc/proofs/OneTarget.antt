@@ -42,11 +42,11 @@ found_later row rows i address target misses (in_none none is) = in_none all is 
 -- going down the rows
 found : (rows : List LaidRow) (i address : ℕ) → Found rows i address (target_from i rows address)
 found [] i address = in_none (λ row a holds. a) refl
-found (row ∷ rows) i address = by (holds_address row address) refl where
-  by : (b : Bool) → holds_address row address ≡ b
+found (row ∷ rows) i address = by (found rows (i + 1) address) (holds_address row address) refl where
+  by : Found rows (i + 1) address (target_from (i + 1) rows address) → (b : Bool) → holds_address row address ≡ b
       → Found (row ∷ rows) i address (if b then target_in i ((aligned address - row.first) / 4) row.item else target_from (i + 1) rows address)
-  by true holds = in_row 0 row refl (holds_by_test row address holds) (let number : i ≡ i + 0 = omega arith in ap (λ n. target_in n ((aligned address - row.first) / 4) row.item) number)
-  by false misses = found_later row rows i address (target_from (i + 1) rows address) misses (found rows (i + 1) address)
+  by later true holds = in_row 0 row refl (holds_by_test row address holds) (let number : i ≡ i + 0 = omega arith in ap (λ n. target_in n ((aligned address - row.first) / 4) row.item) number)
+  by later false misses = found_later row rows i address (target_from (i + 1) rows address) misses later
 
 -- ---- rows that fit
 

@@ -15,6 +15,7 @@ use Rattle.cg_desc.specs.declared.block.LaidFace.{LaidFace}
 use Rattle.cg_regspec.specs.NetNames.{state_net}
 use Rattle.cg_regspec.specs.RegisterModule.{gate_net, gate_of, gated}
 use Rattle.cg_regspec.specs.Meaning.{fields_in}
+use Rattle.cg_regspec.proofs.Tables.{first_net, gate_net_is}
 use Rattle.cg_regspec.proofs.Wires.{RegisterWires, RowsWires, ItemWires}
 
 -- the nets of a register, if there is one
@@ -60,7 +61,7 @@ cut_by v x b n bit holds is one = rw (holds, is) (one_bit_cuts b bit one)
 -- the gate of this register, whose fields are these
 gate_with : (v state next inputs : Values) (g : RegDesc) (fs : List FieldDesc) (x : Expression) (b : Bool) → IsGate (record g { fields = fs })
     → RegisterWires v state next inputs (record g { fields = fs }) → eval v x ≡ b ∷ []
-    → eval v (gated x (gate_net (Some (record g { fields = fs })))) ≡ (b && is_open_at (fields_in state) (Some (record g { fields = fs }))) ∷ []
+    → eval v (gated x (first_net (Some (record g { fields = fs })))) ≡ (b && is_open_at (fields_in state) (Some (record g { fields = fs }))) ∷ []
 gate_with v state next inputs g [] x b gate wires holds = absurd gate.1
 gate_with v state next inputs g (f ∷ []) x b gate wires holds =
     let net = state_net (record g { fields = f ∷ [] }) f in
@@ -69,7 +70,7 @@ gate_with v state next inputs g (f ∷ (h ∷ fs)) x b gate wires holds = absurd
 
 -- the gate, if there is one of the name
 gate_at : (v state next inputs : Values) (o : Option RegDesc) (x : Expression) (b : Bool) → IsGateAt o → WiresAt v state next inputs o → eval v x ≡ b ∷ []
-    → eval v (gated x (gate_net o)) ≡ (b && is_open_at (fields_in state) o) ∷ []
+    → eval v (gated x (first_net o)) ≡ (b && is_open_at (fields_in state) o) ∷ []
 gate_at v state next inputs None x b gate wires holds = absurd gate
 gate_at v state next inputs (Some g) x b gate wires holds = gate_with v state next inputs g g.fields x b gate wires holds
 
@@ -78,7 +79,7 @@ gate_by : (v state next inputs : Values) (face : LaidFace) (r : RegDesc) (o : Op
     → (x : Expression) (b : Bool) → eval v x ≡ b ∷ [] → eval v (gated x (gate_of face.rows o)) ≡ (b && is_open face (fields_in state) (record r { regwen = o })) ∷ []
 gate_by v state next inputs face r None wires fits x b holds = holds ∙ ap (λ z. z ∷ []) (sym (and-true b))
 gate_by v state next inputs face r (Some name) wires fits x b holds =
-    gate_at v state next inputs (register_named face.rows name) x b fits (named_wires v state next inputs face.rows name wires) holds
+    rw (gate_net_is face.rows name) (gate_at v state next inputs (register_named face.rows name) x b fits (named_wires v state next inputs face.rows name wires) holds)
 
 -- a register's write wire is cut by its gate, if it has one
 pub gate_cuts : (v state next inputs : Values) (face : LaidFace) (r : RegDesc) → RowsWires v state next inputs face.rows → GateFits face.rows r.regwen

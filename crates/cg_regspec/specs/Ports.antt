@@ -29,15 +29,15 @@ pub record WindowOf (face : LaidFace) (w : WindowDesc) : Type 0 where
 -- an output of the module: its width and its name
 pub data IsOutput (face : LaidFace) : ℕ → List ℕ → Type 0 where
   -- the answer to an access
-  data_out : IsOutput face 32 reg_rdata
-  has_error : IsOutput face 1 reg_error
+  answer_data : IsOutput face 32 reg_rdata
+  answer_error : IsOutput face 1 reg_error
   -- what hardware sees of a field: its value, that software writes it, and that software reads it
-  value : (r : RegDesc) (f : FieldDesc) → FieldOf face r f → shows_q r f ≡ true → IsOutput face (suc f.msb - f.lsb) (q_net r f)
-  written : (r : RegDesc) (f : FieldDesc) → FieldOf face r f → shows_qe r f ≡ true → IsOutput face 1 (qe_net r f)
-  is_read : (r : RegDesc) (f : FieldDesc) → FieldOf face r f → shows_re r f ≡ true → IsOutput face 1 (re_net r f)
+  field_value : (r : RegDesc) (f : FieldDesc) → FieldOf face r f → shows_q r f ≡ true → IsOutput face (suc f.msb - f.lsb) (q_net r f)
+  field_written : (r : RegDesc) (f : FieldDesc) → FieldOf face r f → shows_qe r f ≡ true → IsOutput face 1 (qe_net r f)
+  field_read : (r : RegDesc) (f : FieldDesc) → FieldOf face r f → shows_re r f ≡ true → IsOutput face 1 (re_net r f)
   -- what hardware sees of a window: the strobes of a write and of a read, the address, the write data and the byte strobes
   window_written : (w : WindowDesc) → WindowOf face w → IsOutput face 1 (window_we w)
-  window_is_read : (w : WindowDesc) → WindowOf face w → IsOutput face 1 (window_re w)
+  window_read : (w : WindowDesc) → WindowOf face w → IsOutput face 1 (window_re w)
   window_address : (w : WindowDesc) → WindowOf face w → IsOutput face 32 (window_addr w)
   window_data : (w : WindowDesc) → WindowOf face w → IsOutput face 32 (window_wdata w)
   window_strobes : (w : WindowDesc) → WindowOf face w → IsOutput face 4 (window_be w)
@@ -48,16 +48,16 @@ pub data IsInput (face : LaidFace) : ℕ → List ℕ → Type 0 where
   clock : IsInput face 1 (codes "clk_i")
   reset : IsInput face 1 (codes "rst_ni")
   -- an access: that it is a write, that it is a read, its address, its data, and a strobe for each byte
-  write : IsInput face 1 reg_we
-  read : IsInput face 1 reg_re
-  address : IsInput face 32 reg_addr
-  data_in : IsInput face 32 reg_wdata
-  strobes : IsInput face 4 reg_be
+  access_write : IsInput face 1 reg_we
+  access_read : IsInput face 1 reg_re
+  access_address : IsInput face 32 reg_addr
+  access_data : IsInput face 32 reg_wdata
+  access_strobes : IsInput face 4 reg_be
   -- what hardware brings for a field: a value, and a strobe with it
-  value : (r : RegDesc) (f : FieldDesc) → FieldOf face r f → brings_d r f ≡ true → IsInput face (suc f.msb - f.lsb) (d_net r f)
-  strobe : (r : RegDesc) (f : FieldDesc) → FieldOf face r f → brings_de r f ≡ true → IsInput face 1 (de_net r f)
+  hardware_value : (r : RegDesc) (f : FieldDesc) → FieldOf face r f → brings_d r f ≡ true → IsInput face (suc f.msb - f.lsb) (d_net r f)
+  hardware_strobe : (r : RegDesc) (f : FieldDesc) → FieldOf face r f → brings_de r f ≡ true → IsInput face 1 (de_net r f)
   -- what hardware brings for a window
-  window_data : (w : WindowDesc) → WindowOf face w → IsInput face 32 (window_rdata w)
+  hardware_word : (w : WindowDesc) → WindowOf face w → IsInput face 32 (window_rdata w)
 
 -- the module has just these outputs and inputs, each once
 pub record HasPortsOf (m : Module) (face : LaidFace) : Type 0 where

@@ -34,19 +34,19 @@ test_of_among (m ∷ ms) n (inr a) = by (test_of_among ms n a) (bytes_eq m n) wh
   by later true = refl
   by later false = later
 
--- what is among the first names is among all
-pub among_front : (n : List ℕ) (xs ys : List (List ℕ)) → Among n xs → Among n (xs ++ ys)
+-- what is among the first members is among all
+pub among_front : {X : Type 0} (n : X) (xs ys : List X) → Among n xs → Among n (xs ++ ys)
 among_front n [] ys a = absurd a
 among_front n (x ∷ xs) ys (inl e) = inl e
 among_front n (x ∷ xs) ys (inr a) = inr (among_front n xs ys a)
 
 -- and what is among the last
-pub among_back : (n : List ℕ) (xs ys : List (List ℕ)) → Among n ys → Among n (xs ++ ys)
+pub among_back : {X : Type 0} (n : X) (xs ys : List X) → Among n ys → Among n (xs ++ ys)
 among_back n [] ys a = a
 among_back n (x ∷ xs) ys a = inr (among_back n xs ys a)
 
 -- what is among all is among the first or the last
-pub among_parts : (n : List ℕ) (xs ys : List (List ℕ)) → Among n (xs ++ ys) → Among n xs ⊎ Among n ys
+pub among_parts : {X : Type 0} (n : X) (xs ys : List X) → Among n (xs ++ ys) → Among n xs ⊎ Among n ys
 among_parts n [] ys a = inr a
 among_parts n (x ∷ xs) ys (inl e) = inl (inl e)
 among_parts n (x ∷ xs) ys (inr a) = up (among_parts n xs ys a) where
