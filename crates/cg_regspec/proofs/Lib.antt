@@ -25,3 +25,4 @@ pub mod WellFields
 pub mod WellFlops
 pub mod WellModule
 pub mod Law
+pub mod RunsAre

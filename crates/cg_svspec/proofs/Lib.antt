@@ -17,3 +17,6 @@ pub mod BitLists
 pub mod WellNames
 pub mod WellCounts
 pub mod WellSound
+pub mod Covered
+pub mod Widths
+pub mod StatesFit

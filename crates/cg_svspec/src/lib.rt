@@ -10,7 +10,7 @@
 //! Not promised: that any other tool for SystemVerilog accepts these texts, or reads them the same way.
 #![tactic(auto)]
 
-ghost use Rattle.cg_svspec.specs.Register.{RegisterHasValuation};
+ghost use Rattle.cg_svspec.specs.Register.{RegisterHasValuation, RegisterStatesFit};
 ghost use Rattle.cg_svspec.specs.Stands.{PrintedTextStands, TextStandsForOneList};
 
 /// What is printed stands for just the module that was printed.
@@ -26,4 +26,9 @@ pub fn text_stands_for_one_list()
 /// A well-formed register module has a valuation for all inputs and states of their widths.
 pub fn register_has_valuation()
     ensures { RegisterHasValuation }
+{}
+
+/// A well-formed register module has states at reset; they have their widths, and so have the states after each clock.
+pub fn register_states_fit()
+    ensures { RegisterStatesFit }
 {}
