@@ -9,6 +9,7 @@ use Rattle.cg_hjson.specs.declared.tree.Tree.{Tree}
 use Rattle.cg_svspec.specs.Stands.{Stands}
 use Rattle.cg_svspec.specs.Tree.{Module}
 use Rattle.cg_regspec.specs.Meaning.{RegisterMeans}
+use Rattle.cg_regspec.specs.RegisterModule.{register_module_name}
 use Rattle.cg_hdrspec.specs.Meaning.{HeaderMeans}
 use Rattle.cg_jsonspec.specs.ReadsBack.{ReadsBack}
 use Rattle.cg_done.specs.Full.{full_block}
@@ -21,14 +22,15 @@ use Rattle.cg_gen.specs.declared.words.Asked.{Asked}
 use Rattle.cg_gen.specs.Run.{World}
 use Rattle.cg_gen.specs.Stages.{limit, IsLaidOutAs}
 
--- The store holds a text for this interface, which stands for one module that acts as the interface's register block: its accesses
--- reach its registers and windows at their offsets, and change its fields by their access kinds.
+-- The store holds a text for this interface, which stands for one module. It has its name and just the interface's ports, and acts as
+-- the interface's register block: its accesses reach its registers and windows at their offsets, and change its fields by their access
+-- kinds.
 pub record HoldsModule (dir : List ℕ) (laid : LaidBlock) (after : Files) (face : LaidFace) : Type 0 where
   pub text : List ℕ
   pub held : map.get after (stored_name dir (output_name laid face)) ≡ Some text
   pub module_of_text : Module
   pub stands : Stands text (module_of_text ∷ [])
-  pub acts : RegisterMeans module_of_text face
+  pub acts : RegisterMeans (register_module_name laid.desc.name face.name) module_of_text face
 
 -- The store holds a header, whose constants are the places, bits and reset values of the block's registers and windows.
 pub record HoldsHeader (dir : List ℕ) (laid : LaidBlock) (after : Files) : Type 0 where
