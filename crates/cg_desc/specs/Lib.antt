@@ -1,6 +1,7 @@
 pub mod AccessTable
 pub mod Target
 pub mod Address
+pub mod Gates
 pub mod BlockStep
 pub mod BlockRun
 pub mod Laid

@@ -1,7 +1,8 @@
 -- The module's tables and the block's agree: which ports a field has, which bytes a write needs, and which register is a gate.
-use Rattle.std.proofs.Common.{◌≡◌, ℕ, suc, ◌/◌, ◌<◌, ◌≤◌, max, Bool, true, false, not, cond, ◌&&◌, List, [], ◌∷◌, Option, Some, None, refl, ap, ◌∙◌, arith}
+use Rattle.std.proofs.Common.{◌≡◌, ℕ, suc, ◌/◌, ◌<◌, ◌≤◌, max, eqb-true, ◌==◌, Bool, true, false, not, cond, ◌&&◌, List, [], ◌∷◌, Option, Some, None, refl, ap, ◌∙◌, arith}
 use Rattle.cg_desc.specs.AccessTable.{is_readable, is_writable, hardware_writes, hardware_sees}
-use Rattle.cg_desc.specs.BlockStep.{highest_bit, has_name, register_named, shows_q, shows_qe, shows_re, brings_d, brings_de}
+use Rattle.cg_desc.specs.Gates.{has_name, register_named, is_gate}
+use Rattle.cg_desc.specs.BlockStep.{highest_bit, shows_q, shows_qe, shows_re, brings_d, brings_de}
 use Rattle.cg_desc.specs.Laid.{FieldsFit, HasField}
 use Rattle.cg_desc.specs.declared.block.SwAccess.{SwAccess}
 use Rattle.cg_desc.specs.declared.block.SwAccess.TheVariants.{Ro, Rc, Rw, R0w1c, Rw1s, Rw1c, Rw0c, Wo, Nothing}
@@ -95,6 +96,27 @@ last_byte_is byte from [] fit some = absurd some
 last_byte_is byte from (f ∷ fs) fit some = last_is_highest byte from f fs fit
 
 -- ---- gates
+
+-- one field of one bit
+abbrev pub OneBit : List FieldDesc → Type 0
+OneBit [] = ⊥
+OneBit (f ∷ []) = f.msb ≡ f.lsb
+OneBit (f ∷ (g ∷ fs)) = ⊥
+
+-- the first part of a test that holds
+first_part : (b c : Bool) → (b && c) ≡ true → b ≡ true
+first_part true c e = refl
+first_part false c e = cc
+
+-- a register that can gate others stores one field of one bit
+gate_by : (g : RegDesc) (external : Bool) (fields : List FieldDesc) → is_gate (record g { hwext = external; fields = fields }) ≡ true → (external ≡ false) × OneBit fields
+gate_by g true fields e = cc
+gate_by g false [] e = cc
+gate_by g false (f ∷ []) e = (refl, eqb-true f.msb f.lsb (first_part (f.msb == f.lsb) (is_readable f.sw && not f.mubi) e))
+gate_by g false (f ∷ (h ∷ fields)) e = cc
+
+pub gate_parts : (g : RegDesc) → is_gate g ≡ true → (g.hwext ≡ false) × OneBit g.fields
+gate_parts g e = gate_by g g.hwext g.fields e
 
 -- the net of a register's first field, if there is a register
 abbrev pub first_net : Option RegDesc → Option (List ℕ)

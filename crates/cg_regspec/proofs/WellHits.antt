@@ -5,8 +5,9 @@ use Rattle.std.proofs.lemmas.Nat.{pow_pos}
 use Rattle.std.proofs.Math.Nat.{div-lt_iff_lt-mul}
 use Rattle.cg_svspec.specs.Printable.{IsLiteral}
 use Rattle.cg_svspec.specs.Tree.{Expression, net, cut, lit, cat, any, equal, Expressions, none, more}
-use Rattle.cg_desc.specs.BlockStep.{has_name, register_named, EachField}
-use Rattle.cg_desc.specs.Laid.{FieldsFit, HasField, IsGate, IsGateAt, GateFits}
+use Rattle.cg_desc.specs.Gates.{has_name, register_named}
+use Rattle.cg_desc.specs.BlockStep.{EachField}
+use Rattle.cg_desc.specs.Laid.{FieldsFit, HasField, IsGateAt, GateFits}
 use Rattle.cg_desc.specs.declared.block.SwAccess.{SwAccess}
 use Rattle.cg_desc.specs.declared.block.SwAccess.TheVariants.{Ro, Wo}
 use Rattle.cg_desc.specs.declared.block.FieldDesc.{FieldDesc}
@@ -19,7 +20,7 @@ use Rattle.cg_regspec.specs.NetNames.{reg_addr, reg_be, state_net, d_net}
 use Rattle.cg_regspec.specs.RegisterModule.{width_of, is_in_word, window_terms, hit_of, last_byte, lacks_strobe, window_write_refused, window_read_refused, write_refused, read_refused, gate_net, gate_of, gated, item_gate, gap, shown_part, word_parts, item_word_text}
 use Rattle.cg_svspec.proofs.WellSound.{Above, Up, Has, has_up, Sound, SoundParts, sound_deeper, sound_net, sound_cut, sound_lit, sound_inv, sound_any, sound_and, sound_equal, sound_none, sound_more, HasPart, sound_cat}
 use Rattle.cg_regspec.proofs.WellSlices.{sound_slice}
-use Rattle.cg_regspec.proofs.Tables.{first_net, gate_net_is}
+use Rattle.cg_regspec.proofs.Tables.{OneBit, gate_parts, first_net, gate_net_is}
 use Rattle.cg_regspec.proofs.WellRows.{FieldFits, field_some, field_narrow, last_low, WindowOk, ItemOk}
 use Rattle.cg_regspec.proofs.WellGiven.{FieldGiven, RegisterGiven, ItemGiven, RowsGiven}
 
@@ -168,16 +169,16 @@ one_bit : {e : Above} {n : List ℕ} (m l : ℕ) → m ≡ l → Has e n (suc m 
 one_bit {e} {n} m l same h = let one : suc m - l ≡ 1 = omega arith in subst (λ w. Has e n w) one h
 
 -- an expression with the gate of this register, whose fields are these
-gate_with_sound : {e : Above} {x : Expression} (b : Above) (g : RegDesc) (fs : List FieldDesc) → IsGate (record g { fields = fs }) → RegisterGiven b (record g { fields = fs }) → Up b e
+gate_with_sound : {e : Above} {x : Expression} (b : Above) (g : RegDesc) (fs : List FieldDesc) → (g.hwext ≡ false) × OneBit fs → RegisterGiven b (record g { fields = fs }) → Up b e
     → Sound e 4 x 1 → Sound e 5 (gated x (first_net (Some (record g { fields = fs })))) 1
 gate_with_sound b g [] gate given up s = absurd gate.1
-gate_with_sound b g (f ∷ []) gate given up s = sound_and s (sound_net 4 (omega arith) (has_up up (one_bit f.msb f.lsb gate.1.0 (given.0.state gate.0))))
+gate_with_sound b g (f ∷ []) gate given up s = sound_and s (sound_net 4 (omega arith) (has_up up (one_bit f.msb f.lsb gate.1 (given.0.state gate.0))))
 gate_with_sound b g (f ∷ (h ∷ fs)) gate given up s = absurd gate.1
 
 -- with the gate, if there is one of the name
 gate_at_sound : {e : Above} {x : Expression} (b : Above) (o : Option RegDesc) → IsGateAt o → GivenAt b o → Up b e → Sound e 4 x 1 → Sound e 5 (gated x (first_net o)) 1
 gate_at_sound b None gate given up s = absurd gate
-gate_at_sound b (Some g) gate given up s = gate_with_sound b g g.fields gate given up s
+gate_at_sound b (Some g) gate given up s = gate_with_sound b g g.fields (gate_parts g gate) given up s
 
 -- with and without a gate
 gate_by_sound : {e : Above} {x : Expression} (b : Above) (all : List LaidRow) (o : Option (List ℕ)) → GateFits all o → RowsGiven b all → Up b e → Sound e 4 x 1 → Sound e 5 (gated x (gate_of all o)) 1

@@ -20,3 +20,4 @@ pub mod WellSound
 pub mod Covered
 pub mod Widths
 pub mod StatesFit
+pub mod FirstRepeat

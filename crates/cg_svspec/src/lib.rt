@@ -10,6 +10,7 @@
 //! Not promised: that any other tool for SystemVerilog accepts these texts, or reads them the same way.
 #![tactic(auto)]
 
+ghost use Rattle.cg_svspec.specs.Names.{FirstRepeatIsFirst};
 ghost use Rattle.cg_svspec.specs.Register.{RegisterHasValuation, RegisterStatesFit};
 ghost use Rattle.cg_svspec.specs.Stands.{PrintedTextStands, TextStandsForOneList};
 
@@ -31,4 +32,10 @@ pub fn register_has_valuation()
 /// A well-formed register module has states at reset; they have their widths, and so have the states after each clock.
 pub fn register_states_fit()
     ensures { RegisterStatesFit }
+{}
+
+/// What is found as the first repeat is the name at the least place whose name stands earlier too, and nothing is found
+/// just where no name stands twice.
+pub fn first_repeat_is_first()
+    ensures { FirstRepeatIsFirst }
 {}
