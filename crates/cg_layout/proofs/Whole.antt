@@ -21,7 +21,7 @@ use Rattle.cg_desc.specs.declared.block.LaidFace.{LaidFace}
 use Rattle.cg_desc.specs.declared.block.LaidBlock.{LaidBlock}
 use Rattle.cg_desc.specs.declared.block.BlockDesc.{BlockDesc}
 use Rattle.cg_desc.specs.Items.{items_of_block}
-use Rattle.cg_desc.specs.Laid.{GateFits, HasRow, IsGate, IsGateAt, IsLaid, RowFits, RowsFit, WindowFits}
+use Rattle.cg_desc.specs.Laid.{GateFits, HasRow, IsGateAt, IsLaid, RowFits, RowsFit, WindowFits}
 use Rattle.cg_desc.specs.Offsets.{Ends, HasRows, IsLaidOut, IsSpan}
 use Rattle.cg_desc.specs.Valid.{IsValidItem, IsValidRegister, IsValidWindow}
 use Rattle.cg_finding.specs.Finding.{Among, Finding}
