@@ -26,3 +26,4 @@ pub mod WellFlops
 pub mod WellModule
 pub mod Law
 pub mod RunsAre
+pub mod Carried

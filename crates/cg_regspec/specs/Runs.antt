@@ -1,5 +1,6 @@
 -- Runs of a register module from its reset, over any clocks.
-use Rattle.std.specs.Prelude.{ℕ, List, map}
+use Rattle.std.specs.Prelude.{◌≡◌, ℕ, ◌^◌, ◌<◌, List, [], ◌∷◌, length, map}
+use Rattle.cg_svspec.specs.Names.{Among}
 use Rattle.cg_svspec.specs.Printable.{AllOf}
 use Rattle.cg_svspec.specs.Tree.{Module}
 use Rattle.cg_svspec.specs.Value.{Values, InputsFit, IsReset, Clocked, ModuleRun}
@@ -7,6 +8,7 @@ use Rattle.cg_desc.specs.BlockStep.{Access, Outcome}
 use Rattle.cg_desc.specs.BlockRun.{Clock, BlockRun}
 use Rattle.cg_desc.specs.Laid.{IsLaid}
 use Rattle.cg_desc.specs.declared.block.LaidFace.{LaidFace}
+use Rattle.cg_regspec.specs.NetNames.{reg_we, reg_re, reg_addr, reg_wdata, reg_be}
 use Rattle.cg_regspec.specs.Meaning.{Carries, hardware_in, fields_in, outcome_in, FieldsAreReset, RegisterMeans}
 
 -- the inputs of a clock, and the access that they carry
@@ -38,3 +40,26 @@ abbrev pub RunsAreTheBlocks : Type 0
 RunsAreTheBlocks =
     (name : List ℕ) (m : Module) (face : LaidFace) → RegisterMeans name m face → IsLaid face → (state : Values) → IsReset m state
     → (clocks : List Driven) → AllOf (IsDriven m) clocks → FieldsAreReset face state × RunsAsBlock m face state clocks
+
+-- ---- no access is left out
+
+-- any access that software can make
+pub record IsAccess (a : Access) : Type 0 where
+  pub small : a.address < 2 ^ 32
+  pub data_wide : length a.data_in ≡ 32
+  pub strobes_wide : length a.strobes ≡ 4
+
+-- the inputs by which software asks
+abbrev pub access_nets : List (List ℕ)
+access_nets = reg_we ∷ reg_re ∷ reg_addr ∷ reg_wdata ∷ reg_be ∷ []
+
+-- inputs that carry the access and are these otherwise
+pub record IsCarried (m : Module) (a : Access) (brought : Values) : Type 0 where
+  pub inputs : Values
+  pub driven : IsDriven m (record { inputs = inputs; access = a })
+  pub others : (n : List ℕ) → (Among n access_nets → ⊥) → inputs n ≡ brought n
+
+-- Each access can be made in any clock, whatever hardware brings in it.
+abbrev pub EachAccessIsCarried : Type 0
+EachAccessIsCarried =
+    (name : List ℕ) (m : Module) (face : LaidFace) → RegisterMeans name m face → (a : Access) → IsAccess a → (brought : Values) → InputsFit m brought → IsCarried m a brought

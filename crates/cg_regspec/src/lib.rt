@@ -6,7 +6,8 @@
 //! every interface that is laid out, and in whose module no name repeats, that the module has its name and just the ports that the
 //! interface asks for, is well formed, has a valuation for all inputs and states of their widths, has the fields' reset values at
 //! reset, and takes in every valuation the step of the register block at every address of 32 bits. The other says of whatever acts
-//! so that from reset, over every list of clocks, it has runs, and each is a run of the register block.
+//! so that from reset, over every list of clocks, it has runs, and each is a run of the register block. The last says that a clock can
+//! carry any access, whatever hardware brings in it.
 //!
 //! The module is told by tables of its own (which ports a kind of field has, which bytes a write needs, which register is a gate),
 //! and shares none with the block's step, so the law would not hold of a slip in either.
@@ -16,7 +17,7 @@
 #![tactic(auto)]
 
 ghost use Rattle.cg_regspec.specs.Laws.{RegisterModuleMeans};
-ghost use Rattle.cg_regspec.specs.Runs.{RunsAreTheBlocks};
+ghost use Rattle.cg_regspec.specs.Runs.{EachAccessIsCarried, RunsAreTheBlocks};
 
 /// The register module of a laid interface, in which no name repeats, acts as the interface's register block.
 pub fn register_module_means()
@@ -26,4 +27,9 @@ pub fn register_module_means()
 /// What acts as the register block of a laid interface runs as the block from reset, over every list of clocks.
 pub fn runs_are_the_blocks()
     ensures { RunsAreTheBlocks }
+{}
+
+/// Each access can be made in any clock, whatever hardware brings in it.
+pub fn each_access_is_carried()
+    ensures { EachAccessIsCarried }
 {}
