@@ -65,7 +65,7 @@ all_fit a brought ports others is are differ fit =
 pub each_access_is_carried : EachAccessIsCarried
 each_access_is_carried name m face means a is brought fit = record {
   inputs = with_access a brought;
-  driven = record {
+  is_clock = record {
     fits = all_fit a brought m.ports means.is_register.others is means.is_register.ports means.ports.each_once fit;
     carries = record { we = refl; re = refl; address = refl; data_in = refl; strobes = refl; small = is.small };
   };

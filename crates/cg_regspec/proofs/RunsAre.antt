@@ -10,18 +10,18 @@ use Rattle.cg_desc.specs.Target.{target_at}
 use Rattle.cg_desc.specs.declared.block.LaidFace.{LaidFace}
 use Rattle.cg_desc.proofs.OneTarget.{each_address_has_one_target}
 use Rattle.cg_regspec.specs.Meaning.{fields_in, RegisterMeans}
-use Rattle.cg_regspec.specs.Runs.{Driven, IsDriven, clock_in, outcome_of, RunsAreTheBlocks}
+use Rattle.cg_regspec.specs.Runs.{ModuleClock, IsClockOf, clock_in, outcome_of, RunsAreTheBlocks}
 
 -- the inputs of the clocks
-abbrev inputs_of : List Driven → List Values
+abbrev inputs_of : List ModuleClock → List Values
 inputs_of clocks = map (λ c. c.inputs) clocks
 
 -- inputs and states have their widths
-both_fit : (m : Module) (c : Driven) (state : Values) → IsDriven m c → StatesFit m state → HasWidths m c.inputs state
+both_fit : (m : Module) (c : ModuleClock) (state : Values) → IsClockOf m c → StatesFit m state → HasWidths m c.inputs state
 both_fit m c state driven fit = record { inputs_fit = driven.fits; states_fit = fit }
 
 -- there is a run from states that have their widths
-run_exists : (name : List ℕ) (m : Module) (face : LaidFace) → RegisterMeans name m face → (clocks : List Driven) → AllOf (IsDriven m) clocks → (state : Values) → StatesFit m state
+run_exists : (name : List ℕ) (m : Module) (face : LaidFace) → RegisterMeans name m face → (clocks : List ModuleClock) → AllOf (IsClockOf m) clocks → (state : Values) → StatesFit m state
     → (outs : List Clocked) × ModuleRun m state (inputs_of clocks) outs
 run_exists name m face means [] driven state fit = ([], stops state)
 run_exists name m face means (c ∷ cs) driven state fit =
@@ -31,7 +31,7 @@ run_exists name m face means (c ∷ cs) driven state fit =
     (record { nets = here.0; after = here.1 } ∷ rest.0, goes_on state c.inputs (record { nets = here.0; after = here.1 }) (inputs_of cs) rest.0 here.2 rest.1)
 
 -- each run from such states is the block's
-run_is : (name : List ℕ) (m : Module) (face : LaidFace) → RegisterMeans name m face → IsLaid face → (clocks : List Driven) → AllOf (IsDriven m) clocks → (state : Values) → StatesFit m state
+run_is : (name : List ℕ) (m : Module) (face : LaidFace) → RegisterMeans name m face → IsLaid face → (clocks : List ModuleClock) → AllOf (IsClockOf m) clocks → (state : Values) → StatesFit m state
     → (outs : List Clocked) → ModuleRun m state (inputs_of clocks) outs → BlockRun face (fields_in state) (map clock_in clocks) (map outcome_of outs)
 run_is name m face means laid [] driven state fit [] (stops states) = block.stops (fields_in state)
 run_is name m face means laid [] driven state fit (out ∷ outs) run = elim run [ ]

@@ -12,17 +12,17 @@ use Rattle.cg_regspec.specs.NetNames.{reg_we, reg_re, reg_addr, reg_wdata, reg_b
 use Rattle.cg_regspec.specs.Meaning.{Carries, hardware_in, fields_in, outcome_in, FieldsAreReset, RegisterMeans}
 
 -- the inputs of a clock, and the access that they carry
-pub record Driven : Type 0 where
+pub record ModuleClock : Type 0 where
   pub inputs : Values
   pub access : Access
 
 -- the inputs have their widths, and carry the access
-pub record IsDriven (m : Module) (c : Driven) : Type 0 where
+pub record IsClockOf (m : Module) (c : ModuleClock) : Type 0 where
   pub fits : InputsFit m c.inputs
   pub carries : Carries c.inputs c.access
 
 -- the clock as the block takes it
-abbrev pub clock_in : Driven → Clock
+abbrev pub clock_in : ModuleClock → Clock
 clock_in c = record { access = c.access; hardware = hardware_in c.inputs }
 
 -- what comes of it, as the module's outputs and next states have it
@@ -30,7 +30,7 @@ abbrev pub outcome_of : Clocked → Outcome
 outcome_of c = outcome_in c.nets c.after
 
 -- Over these clocks the module has a run from these states, and each such run is a run of the block from the fields that the states hold.
-pub record RunsAsBlock (m : Module) (face : LaidFace) (state : Values) (clocks : List Driven) : Type 0 where
+pub record RunsAsBlock (m : Module) (face : LaidFace) (state : Values) (clocks : List ModuleClock) : Type 0 where
   pub exists : (outs : List Clocked) × ModuleRun m state (map (λ c. c.inputs) clocks) outs
   pub all : (outs : List Clocked) → ModuleRun m state (map (λ c. c.inputs) clocks) outs → BlockRun face (fields_in state) (map clock_in clocks) (map outcome_of outs)
 
@@ -39,7 +39,7 @@ pub record RunsAsBlock (m : Module) (face : LaidFace) (state : Values) (clocks :
 abbrev pub RunsAreTheBlocks : Type 0
 RunsAreTheBlocks =
     (name : List ℕ) (m : Module) (face : LaidFace) → RegisterMeans name m face → IsLaid face → (state : Values) → IsReset m state
-    → (clocks : List Driven) → AllOf (IsDriven m) clocks → FieldsAreReset face state × RunsAsBlock m face state clocks
+    → (clocks : List ModuleClock) → AllOf (IsClockOf m) clocks → FieldsAreReset face state × RunsAsBlock m face state clocks
 
 -- ---- no access is left out
 
@@ -56,7 +56,7 @@ access_nets = reg_we ∷ reg_re ∷ reg_addr ∷ reg_wdata ∷ reg_be ∷ []
 -- inputs that carry the access and are these otherwise
 pub record IsCarried (m : Module) (a : Access) (brought : Values) : Type 0 where
   pub inputs : Values
-  pub driven : IsDriven m (record { inputs = inputs; access = a })
+  pub is_clock : IsClockOf m (record { inputs = inputs; access = a })
   pub others : (n : List ℕ) → (Among n access_nets → ⊥) → inputs n ≡ brought n
 
 -- Each access can be made in any clock, whatever hardware brings in it.
