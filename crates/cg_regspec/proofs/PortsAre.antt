@@ -54,9 +54,19 @@ fields_ask face row r (f ∷ fs) there is all =
 item_asks : (face : LaidFace) (row : LaidRow) (item : Item) → Among row face.rows → row.item ≡ item → AllOf (IsPort face) (item_ports item)
 item_asks face row (Reg r) there is = fields_ask face row r r.fields there is (λ f a. a)
 item_asks face row (Window w) there is =
-    let of : WindowOf face w = record { row = row; in_face = there; is_window = is } in
-    (window_written w of, (window_read w of, (window_address w of, (window_data w of,
-    (window_strobes w of, (hardware_word w of, tt))))))
+    let of : WindowOf face w = record { row = row; in_face = there; is_window = is } in (
+      window_written w of,
+      (
+        window_read w of,
+        (
+          window_address w of,
+          (
+            window_data w of,
+            (window_strobes w of, (hardware_word w of, tt)),
+          ),
+        ),
+      ),
+    )
 item_asks face row (SkipTo to at) there is = tt
 item_asks face row (Reserved words at) there is = tt
 
@@ -68,9 +78,28 @@ rows_ask face (row ∷ rows) all =
 
 -- the ports of the access
 access_asks : (face : LaidFace) → AllOf (IsPort face) access_ports
-access_asks face =
-    (clock, (reset, (access_write, (access_read, (access_address, (access_data, (access_strobes,
-    (answer_data, (answer_error, tt)))))))))
+access_asks face = (
+  clock,
+  (
+    reset,
+    (
+      access_write,
+      (
+        access_read,
+        (
+          access_address,
+          (
+            access_data,
+            (
+              access_strobes,
+              (answer_data, (answer_error, tt)),
+            ),
+          ),
+        ),
+      ),
+    ),
+  ),
+)
 
 -- what holds of all holds of one of them
 of_all : {A : Type 0} (P : A → Type 0) (x : A) (xs : List A) → AllOf P xs → Among x xs → P x

@@ -189,13 +189,7 @@ fn add_views(
     add_assign_if(alloc, entries, has_q(register, field), q.as_str(), value)?;
     let qe = field_net(alloc, register, field, "_qe")?;
     let write = nets::row(alloc, "we_", number)?;
-    add_assign_if(
-        alloc,
-        entries,
-        has_qe(register, field),
-        qe.as_str(),
-        write,
-    )?;
+    add_assign_if(alloc, entries, has_qe(register, field), qe.as_str(), write)?;
     let re = field_net(alloc, register, field, "_re")?;
     let read = nets::row(alloc, "re_", number)?;
     add_assign_if(alloc, entries, has_re(register, field), re.as_str(), read)?;

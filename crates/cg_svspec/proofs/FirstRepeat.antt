@@ -24,6 +24,7 @@ not_first : (before : List (List ℕ)) (x : List ℕ) (xs : List (List ℕ)) →
 not_first before x xs new r = by r.again where
   same : x ≡ r.name
   same = let e = r.is in cc
+
   by : Among r.name before ⊎ ((j : ℕ) × (j < 0) × (slice_get (x ∷ xs) j ≡ Some r.name)) → ⊥
   by (inl a) = let found = test_of_among before x (subst (λ n. Among n before) (sym same) a) in cc
   by (inr earlier) = absurd (omega (arith, earlier.1))

@@ -164,6 +164,7 @@ drives inputs m n [] a = absurd a
 drives inputs m n (c ∷ cs) a = of (drives inputs m n cs) (is_output inputs m c) refl a where
   further : Drives inputs m n cs → Drives inputs m n (c ∷ cs)
   further d = record { by = d.by; there = inr d.there; out = d.out; nets = d.nets }
+
   of : (Among n (driven_by_connections inputs m cs) → Drives inputs m n cs) → (b : Bool) → is_output inputs m c ≡ b
       → Among n (cond b (driven_nets c.value) [] ++ driven_by_connections inputs m cs) → Drives inputs m n (c ∷ cs)
   of later false is a = further (later a)
