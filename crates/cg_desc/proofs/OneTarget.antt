@@ -1,12 +1,10 @@
 -- Each address of a laid interface is just one thing, which is what going down the rows finds.
-use Rattle.std.proofs.Common.{◌≡◌, ℕ, zero, suc, ◌+◌, ◌-◌, ◌*◌, ◌/◌, ◌<◌, ◌≤◌, Bool, true, false, List, [], ◌∷◌, Option, Some, None, slice_get, refl, sym, ap, subst, ◌∙◌, ◌⊎◌, inl, inr, arith, if◌then◌else◌}
+use Rattle.std.proofs.Common.{◌≡◌, ℕ, zero, suc, ◌+◌, ◌-◌, ◌/◌, ◌<◌, ◌≤◌, Bool, true, false, List, [], ◌∷◌, Some, slice_get, refl, sym, ap, subst, ◌∙◌, inl, inr, arith, if◌then◌else◌}
 use Rattle.std.proofs.lemmas.Bool.Decides.{nat_tests}
 use Rattle.cg_svspec.specs.Names.{Among}
 use Rattle.cg_desc.specs.Target.{Target, register, word, error, aligned, row_end, HoldsAddress, IsTarget, at_register, at_word, nowhere, holds_address, target_in, target_from, target_at}
-use Rattle.cg_desc.specs.Address.{HasOneTarget, EachAddressHasOneTarget}
+use Rattle.cg_desc.specs.Address.{EachAddressHasOneTarget}
 use Rattle.cg_desc.specs.Laid.{RowFits, RowsFit, IsLaid}
-use Rattle.cg_desc.specs.declared.block.RegDesc.{RegDesc}
-use Rattle.cg_desc.specs.declared.block.WindowDesc.{WindowDesc}
 use Rattle.cg_desc.specs.declared.block.Item.{Item}
 use Rattle.cg_desc.specs.declared.block.Item.TheVariants.{Reg, Window, SkipTo, Reserved}
 use Rattle.cg_desc.specs.declared.block.LaidRow.{LaidRow}

@@ -1,5 +1,5 @@
 -- Each access can be made in any clock of a register module, whatever hardware brings in it.
-use Rattle.std.proofs.Common.{◌≡◌, ℕ, Bool, true, false, cond, List, [], ◌∷◌, ◌++◌, length, refl, ap, subst, ◌∙◌, inl, inr, codes}
+use Rattle.std.proofs.Common.{◌≡◌, ℕ, Bool, true, false, cond, List, [], ◌∷◌, ◌++◌, length, refl, ap, subst, ◌∙◌, inl, inr}
 use Rattle.std.specs.Str.{bytes_eq}
 use Rattle.cg_svspec.specs.Bits.{bits}
 use Rattle.cg_svspec.specs.Names.{Among, Differ, port_names}

@@ -14,7 +14,7 @@ use Rattle.cg_desc.specs.declared.block.Item.TheVariants.{Reg, Window, SkipTo, R
 use Rattle.cg_desc.specs.declared.block.LaidRow.{LaidRow}
 use Rattle.cg_desc.specs.declared.block.LaidFace.{LaidFace}
 use Rattle.cg_regspec.specs.NetNames.{state_net}
-use Rattle.cg_regspec.specs.RegisterModule.{gate_net, gate_of, gated}
+use Rattle.cg_regspec.specs.RegisterModule.{gate_of, gated}
 use Rattle.cg_regspec.specs.Meaning.{fields_in}
 use Rattle.cg_regspec.proofs.Tables.{OneBit, gate_parts, first_net, gate_net_is}
 use Rattle.cg_regspec.proofs.Wires.{RegisterWires, RowsWires, ItemWires}

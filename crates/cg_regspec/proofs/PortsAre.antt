@@ -7,7 +7,6 @@ use Rattle.cg_svspec.specs.Register.{access_ports, input_port, output_port}
 use Rattle.cg_svspec.specs.WellFormed.{WellFormed}
 use Rattle.cg_svspec.proofs.NamesLemmas.{among_front, among_back, differ_front}
 use Rattle.cg_svspec.proofs.Parts.{all_join}
-use Rattle.cg_desc.specs.BlockStep.{shows_q}
 use Rattle.cg_desc.specs.declared.block.FieldDesc.{FieldDesc}
 use Rattle.cg_desc.specs.declared.block.RegDesc.{RegDesc}
 use Rattle.cg_desc.specs.declared.block.WindowDesc.{WindowDesc}

@@ -1,5 +1,5 @@
 -- The module's tables and the block's agree: which ports a field has, which bytes a write needs, and which register is a gate.
-use Rattle.std.proofs.Common.{◌≡◌, ℕ, suc, ◌/◌, ◌<◌, ◌≤◌, max, eqb-true, ◌==◌, Bool, true, false, not, cond, ◌&&◌, List, [], ◌∷◌, Option, Some, None, refl, ap, ◌∙◌, arith}
+use Rattle.std.proofs.Common.{◌≡◌, ℕ, suc, ◌/◌, ◌≤◌, max, eqb-true, ◌==◌, Bool, true, false, not, cond, ◌&&◌, List, [], ◌∷◌, Option, Some, None, refl, ap, ◌∙◌, arith}
 use Rattle.cg_desc.specs.AccessTable.{is_readable, is_writable, hardware_writes, hardware_sees}
 use Rattle.cg_desc.specs.Gates.{has_name, register_named, is_gate}
 use Rattle.cg_desc.specs.BlockStep.{highest_bit, shows_q, shows_qe, shows_re, brings_d, brings_de}

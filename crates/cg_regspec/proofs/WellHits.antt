@@ -17,7 +17,7 @@ use Rattle.cg_desc.specs.declared.block.Item.{Item}
 use Rattle.cg_desc.specs.declared.block.Item.TheVariants.{Reg, Window, SkipTo, Reserved}
 use Rattle.cg_desc.specs.declared.block.LaidRow.{LaidRow}
 use Rattle.cg_regspec.specs.NetNames.{reg_addr, reg_be, state_net, d_net}
-use Rattle.cg_regspec.specs.RegisterModule.{width_of, is_in_word, window_terms, hit_of, last_byte, lacks_strobe, window_write_refused, window_read_refused, write_refused, read_refused, gate_net, gate_of, gated, item_gate, gap, shown_part, word_parts, item_word_text}
+use Rattle.cg_regspec.specs.RegisterModule.{width_of, is_in_word, window_terms, hit_of, last_byte, lacks_strobe, window_write_refused, window_read_refused, write_refused, read_refused, gate_of, gated, item_gate, gap, shown_part, word_parts, item_word_text}
 use Rattle.cg_svspec.proofs.WellSound.{Above, Up, Has, has_up, Sound, SoundParts, sound_deeper, sound_net, sound_cut, sound_lit, sound_inv, sound_any, sound_and, sound_equal, sound_none, sound_more, HasPart, sound_cat}
 use Rattle.cg_regspec.proofs.WellSlices.{sound_slice}
 use Rattle.cg_regspec.proofs.Tables.{OneBit, gate_parts, first_net, gate_net_is}

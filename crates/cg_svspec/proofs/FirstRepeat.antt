@@ -1,5 +1,5 @@
 -- The first repeat that the search finds is the name at the least place whose name stands at an earlier place.
-use Rattle.std.proofs.Common.{◌≡◌, ℕ, zero, suc, ◌<◌, ◌≤◌, Bool, true, false, cond, ◌⊎◌, inl, inr, Option, Some, None, List, [], ◌∷◌, slice_get, refl, sym, ap, subst, ◌∙◌, arith}
+use Rattle.std.proofs.Common.{◌≡◌, ℕ, zero, suc, ◌<◌, ◌≤◌, Bool, true, false, cond, ◌⊎◌, inl, inr, Option, Some, None, List, [], ◌∷◌, slice_get, refl, sym, ap, subst, arith}
 use Rattle.std.proofs.lemmas.Bool.{cases_lt}
 use Rattle.cg_svspec.specs.Names.{is_among, first_repeat, first_repeat_after, Among, Repeats, IsFirstRepeat, FirstRepeatIsFirst}
 use Rattle.cg_svspec.proofs.NamesLemmas.{among_by_test, test_of_among, none_repeats, differ_has_no_repeat}

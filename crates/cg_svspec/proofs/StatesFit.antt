@@ -1,13 +1,13 @@
 -- A well-formed register module has states at reset; they have their widths, and so have the states after each clock.
-use Rattle.std.proofs.Common.{◌≡◌, ℕ, suc, Bool, true, false, cond, ◌⊎◌, inl, inr, Option, Some, None, List, [], ◌∷◌, ◌++◌, length, refl, ap, sym, subst, ◌∙◌, arith, codes}
+use Rattle.std.proofs.Common.{◌≡◌, ℕ, suc, Bool, true, false, cond, ◌⊎◌, inl, inr, Option, Some, None, List, [], ◌∷◌, ◌++◌, length, refl, ap, sym, subst, ◌∙◌, codes}
 use Rattle.std.specs.Str.{bytes_eq}
 use Rattle.cg_svspec.specs.Bits.{Bits, bits}
-use Rattle.cg_svspec.specs.Tree.{Expression, net, cut, lit, cat, inv, any, and, or, equal, pick, Port, Parameter, Connection, Entry, wire, drive, assign, inst, Module}
+use Rattle.cg_svspec.specs.Tree.{Expression, net, lit, Port, Parameter, Connection, Entry, wire, drive, assign, inst, Module}
 use Rattle.cg_svspec.specs.Names.{Among, Differ, port_names, entry_names}
 use Rattle.cg_svspec.specs.Printable.{AllOf}
-use Rattle.cg_svspec.specs.Value.{Values, connection_at, parameter_at, flop_name, FlopHolds, AllHold, InputHolds, InputFits, StateFits, StateFitsIn, StatesFit, ResetHolds, IsResetIn, IsReset}
-use Rattle.cg_svspec.specs.WellFormed.{Net, stated, flop_ports, Declares, IsOfWidth, IsBareNet, FlopFits, EntriesFit, connection_names, is_part, ends_with, is_output, driven_nets, driven_by_connections, instance_driven, expression_driven, inputs_of, port_nets, WellFormed}
-use Rattle.cg_svspec.specs.Register.{IsRegisterEntry, IsRegister, StatesStayWide, RegisterStatesFit}
+use Rattle.cg_svspec.specs.Value.{Values, connection_at, parameter_at, flop_name, FlopHolds, AllHold, InputHolds, InputFits, StateFits, StateFitsIn, ResetHolds, IsResetIn}
+use Rattle.cg_svspec.specs.WellFormed.{Net, stated, Declares, IsOfWidth, IsBareNet, FlopFits, EntriesFit, connection_names, ends_with, is_output, driven_nets, driven_by_connections, instance_driven, expression_driven, inputs_of, port_nets, WellFormed}
+use Rattle.cg_svspec.specs.Register.{IsRegisterEntry, RegisterStatesFit}
 use Rattle.cg_svspec.proofs.BitLists.{length-bits}
 use Rattle.cg_svspec.proofs.Covered.{covered}
 use Rattle.cg_svspec.proofs.Exists.{q_is_driven}
