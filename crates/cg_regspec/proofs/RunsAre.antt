@@ -27,7 +27,7 @@ run_exists name m face means [] driven state fit = ([], stops state)
 run_exists name m face means (c ∷ cs) driven state fit =
     let widths = both_fit m c state driven.0 fit in
     let here = means.has_valuation c.inputs state widths in
-    let rest = run_exists name m face means cs driven.1 here.1 (means.states.next_fits c.inputs state here.0 here.1 widths here.2) in
+    let rest = run_exists name m face means cs driven.1 here.1 (means.widths.next_fits c.inputs state here.0 here.1 widths here.2) in
     (record { nets = here.0; after = here.1 } ∷ rest.0, goes_on state c.inputs (record { nets = here.0; after = here.1 }) (inputs_of cs) rest.0 here.2 rest.1)
 
 -- each run from such states is the block's
@@ -42,12 +42,12 @@ run_is name m face means laid (c ∷ cs) driven state fit (out ∷ outs) (goes_o
     let there = (each_address_has_one_target face laid c.access.address).there in
     block.goes_on (fields_in state) (clock_in c) target (outcome_of out) (map clock_in cs) (map outcome_of outs) there
     (means.steps c.inputs state out.nets out.after c.access target widths driven.0.carries there valuation)
-    (run_is name m face means laid cs driven.1 out.after (means.states.next_fits c.inputs state out.nets out.after widths valuation) outs rest)
+    (run_is name m face means laid cs driven.1 out.after (means.widths.next_fits c.inputs state out.nets out.after widths valuation) outs rest)
 
 -- From reset, over every list of clocks.
 pub runs_are_the_blocks : RunsAreTheBlocks
 runs_are_the_blocks name m face means laid state reset clocks driven =
-    let fit = means.states.reset_fits state reset in (
+    let fit = means.widths.reset_fits state reset in (
       means.resets state reset,
       record {
         exists = run_exists name m face means clocks driven state fit;

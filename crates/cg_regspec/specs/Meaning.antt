@@ -4,7 +4,7 @@ use Rattle.cg_svspec.specs.Bits.{Bits, bits}
 use Rattle.cg_svspec.specs.Tree.{Module}
 use Rattle.cg_svspec.specs.Value.{Values, Valuation, HasWidths, IsReset}
 use Rattle.cg_svspec.specs.WellFormed.{WellFormed}
-use Rattle.cg_svspec.specs.Register.{IsRegister, StatesStayWide}
+use Rattle.cg_svspec.specs.Register.{IsRegister, KeepsWidths}
 use Rattle.cg_desc.specs.Target.{Target, IsTarget}
 use Rattle.cg_desc.specs.BlockStep.{Access, is_read, is_write, Fields, Hardware, Outcome, BlockStep, EachField, EachRow, Where}
 use Rattle.cg_desc.specs.declared.block.Item.{Item}
@@ -66,14 +66,14 @@ FieldsAreReset face state = EachRow (ItemIsReset state) 0 face.rows
 
 -- The module of this name acts as the register block of the interface. Its outputs are the answer to an access and what hardware
 -- sees; its inputs are the access and what hardware brings. It is a well-formed register module. Its states at reset exist, are the
--- fields' reset values, and have their widths, and so have the states after each clock. It has a valuation for all inputs and states
--- of their widths, and each of its valuations is the block's step at what the address is, for every access at every address of 32 bits.
+-- fields' reset values, and have their widths, and so have the outputs, and the states after each clock. It has a valuation for all inputs
+-- and states of their widths, and each of its valuations is the block's step at what the address is, for every access at every address of 32 bits.
 pub record RegisterMeans (name : List ℕ) (m : Module) (face : LaidFace) : Type 0 where
   pub named : m.name ≡ name
   pub ports : HasPortsOf m face
   pub well_formed : WellFormed m
   pub is_register : IsRegister m
-  pub states : StatesStayWide m
+  pub widths : KeepsWidths m
   pub resets : (state : Values) → IsReset m state → FieldsAreReset face state
   pub has_reset : (state : Values) → FieldsAreReset face state → IsReset m state
   pub has_valuation : (inputs state : Values) → HasWidths m inputs state → (v : Values) × (next : Values) × Valuation m inputs state v next

@@ -19,5 +19,5 @@ pub mod WellCounts
 pub mod WellSound
 pub mod Covered
 pub mod Widths
-pub mod StatesFit
+pub mod KeepsWidths
 pub mod FirstRepeat

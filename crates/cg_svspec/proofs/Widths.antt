@@ -7,7 +7,7 @@ use Rattle.cg_svspec.specs.Tree.{Expression, net, cut, lit, cat, inv, any, and, 
 use Rattle.cg_svspec.specs.Names.{Among, Differ, entry_names}
 use Rattle.cg_svspec.specs.Printable.{AllOf}
 use Rattle.cg_svspec.specs.Value.{Values, eval, eval_parts, connection_at, parameter_at, flop_name, FlopHolds, AllHold, StateFits, StateFitsIn}
-use Rattle.cg_svspec.specs.WellFormed.{Net, stated, Declares, HasWidth, PartsHaveWidth, Uses, UsesAll, IsOfWidth, IsBareNet, FlopFits, PartFits, ConnectionsUse, EntriesFit}
+use Rattle.cg_svspec.specs.WellFormed.{Net, stated, Declares, HasWidth, PartsHaveWidth, Uses, UsesAll, IsOfWidth, IsBareNet, FlopFits, PartFits, ConnectionsUse, EntriesFit, expression_driven}
 use Rattle.cg_svspec.specs.Register.{IsRegisterEntry}
 use Rattle.cg_svspec.proofs.BitLists.{length-bits}
 
@@ -193,3 +193,30 @@ nexts_fit inputs v state next all nets known (inst m ps n cs ∷ es) one up wide
       rw flops.0.0 (flop_next_fits v state next all nets known m ps cs (λ k u d. up k u (declared_after nets es k u d)) wide fits fit.1 held),
       nexts_fit inputs v state next all nets known es one up wide fit.2 flops.1 holds.1,
     )
+
+-- a net that is the first or one of the others
+either : (v : Values) (all : List Net) (n : List ℕ) (known names : List (List ℕ)) → Wide v all (n ∷ known) → Wide v all names → Wide v all (n ∷ names)
+either v all n known names first others m u (inl e) d = first m u (inl e) d
+either v all n known names first others m u (inr a) d = others m u a d
+
+-- and each net with an expression has its width
+pub driven_wide : (inputs : List (List ℕ)) (v state next : Values) (all nets : List Net) (known : List (List ℕ)) (es : List Entry) → OneWidth all
+    → ((n : List ℕ) (w : ℕ) → Declares (nets_after nets es) n w → Declares all n w) → Wide v all known → EntriesFit inputs nets known es → AllHold v state next es
+    → Wide v all (expression_driven es)
+driven_wide inputs v state next all nets known [] one up wide fit holds m u a d = absurd a
+driven_wide inputs v state next all nets known (wire w n ∷ es) one up wide fit holds m u a d =
+    driven_wide inputs v state next all (stated n w ∷ nets) known es one up wide fit holds.1 m u a d
+driven_wide inputs v state next all nets known (drive w n x ∷ es) one up wide fit holds m u a d =
+    let declared : Declares all n w = up n w (declared_after (stated n w ∷ nets) es n w (inl (refl, refl))) in
+    let here : Wide v nets known = λ k z b e. wide k z b (up k z (declared_after (stated n w ∷ nets) es k z (inr e))) in
+    let is : length (v n) ≡ w = ap length holds.0 ∙ value_wide v nets known here x w fit.0 fit.1 in
+    let behind : Wide v all (n ∷ known) = wide_behind v all known n w one wide declared is in
+    either v all n known (expression_driven es) behind (driven_wide inputs v state next all (stated n w ∷ nets) (n ∷ known) es one up behind fit.2 holds.1) m u a d
+driven_wide inputs v state next all nets known (assign n x ∷ es) one up wide fit holds m u a d =
+    let w : ℕ = fit.0.0 in
+    let declared : Declares all n w = up n w (declared_after nets es n w fit.0.1) in
+    let here : Wide v nets known = λ k z b e. wide k z b (up k z (declared_after nets es k z e)) in
+    let is : length (v n) ≡ w = ap length holds.0 ∙ value_wide v nets known here x w fit.0.2 fit.1 in
+    let behind : Wide v all (n ∷ known) = wide_behind v all known n w one wide declared is in
+    either v all n known (expression_driven es) behind (driven_wide inputs v state next all nets (n ∷ known) es one up behind fit.2 holds.1) m u a d
+driven_wide inputs v state next all nets known (inst p ps n cs ∷ es) one up wide fit holds m u a d = driven_wide inputs v state next all nets known es one up wide fit.2 holds.1 m u a d

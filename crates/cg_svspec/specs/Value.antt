@@ -102,7 +102,14 @@ InputsFit m inputs = AllOf (InputFits inputs) m.ports
 abbrev pub StatesFit : Module → Values → Type 0
 StatesFit m state = AllOf (StateFitsIn state) m.entries
 
--- both have
+-- the outputs have theirs, in a valuation
+abbrev pub OutputFits : Values → Port → Type 0
+OutputFits v p = cond p.input (Unit {0}) (length (v p.name) ≡ p.width)
+
+abbrev pub OutputsFit : Module → Values → Type 0
+OutputsFit m v = AllOf (OutputFits v) m.ports
+
+-- inputs and states have
 pub record HasWidths (m : Module) (inputs state : Values) : Type 0 where
   pub inputs_fit : InputsFit m inputs
   pub states_fit : StatesFit m state

@@ -11,7 +11,7 @@
 #![tactic(auto)]
 
 ghost use Rattle.cg_svspec.specs.Names.{FirstRepeatIsFirst};
-ghost use Rattle.cg_svspec.specs.Register.{RegisterHasValuation, RegisterStatesFit};
+ghost use Rattle.cg_svspec.specs.Register.{RegisterHasValuation, RegisterKeepsWidths};
 ghost use Rattle.cg_svspec.specs.Stands.{PrintedTextStands, TextStandsForOneList};
 
 /// What is printed stands for just the module that was printed.
@@ -29,9 +29,10 @@ pub fn register_has_valuation()
     ensures { RegisterHasValuation }
 {}
 
-/// A well-formed register module has states at reset; they have their widths, and so have the states after each clock.
-pub fn register_states_fit()
-    ensures { RegisterStatesFit }
+/// A well-formed register module has states at reset; they have their widths, and so have its outputs, and the states after
+/// each clock.
+pub fn register_keeps_widths()
+    ensures { RegisterKeepsWidths }
 {}
 
 /// What is found as the first repeat is the name at the least place whose name stands earlier too, and nothing is found

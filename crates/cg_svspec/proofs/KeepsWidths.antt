@@ -1,18 +1,18 @@
--- A well-formed register module has states at reset; they have their widths, and so have the states after each clock.
+-- A well-formed register module has states at reset; they have their widths, and so have its outputs, and the states after each clock.
 use Rattle.std.proofs.Common.{◌≡◌, ℕ, suc, Bool, true, false, cond, ◌⊎◌, inl, inr, Option, Some, None, List, [], ◌∷◌, ◌++◌, length, refl, ap, sym, subst, ◌∙◌, codes}
 use Rattle.std.specs.Str.{bytes_eq}
 use Rattle.cg_svspec.specs.Bits.{Bits, bits}
 use Rattle.cg_svspec.specs.Tree.{Expression, net, lit, Port, Parameter, Connection, Entry, wire, drive, assign, inst, Module}
 use Rattle.cg_svspec.specs.Names.{Among, Differ, port_names, entry_names}
 use Rattle.cg_svspec.specs.Printable.{AllOf}
-use Rattle.cg_svspec.specs.Value.{Values, connection_at, parameter_at, flop_name, FlopHolds, AllHold, InputHolds, InputFits, StateFits, StateFitsIn, ResetHolds, IsResetIn}
-use Rattle.cg_svspec.specs.WellFormed.{Net, stated, Declares, IsOfWidth, IsBareNet, FlopFits, EntriesFit, connection_names, ends_with, is_output, driven_nets, driven_by_connections, instance_driven, expression_driven, inputs_of, port_nets, WellFormed}
-use Rattle.cg_svspec.specs.Register.{IsRegisterEntry, RegisterStatesFit}
+use Rattle.cg_svspec.specs.Value.{Values, connection_at, parameter_at, flop_name, FlopHolds, AllHold, InputHolds, InputFits, OutputFits, StateFits, StateFitsIn, HasWidths, Valuation, ResetHolds, IsResetIn}
+use Rattle.cg_svspec.specs.WellFormed.{Net, stated, Declares, IsOfWidth, IsBareNet, FlopFits, EntriesFit, connection_names, ends_with, is_output, driven_nets, driven_by_connections, instance_driven, expression_driven, inputs_of, outputs_of, port_nets, AllAmong, WellFormed}
+use Rattle.cg_svspec.specs.Register.{IsRegisterEntry, IsRegister, RegisterKeepsWidths}
 use Rattle.cg_svspec.proofs.BitLists.{length-bits}
 use Rattle.cg_svspec.proofs.Covered.{covered}
 use Rattle.cg_svspec.proofs.Exists.{q_is_driven}
 use Rattle.cg_svspec.proofs.NamesLemmas.{name_is_itself, same_name, not_chosen, among_front, among_back, among_parts, differ_front, differ_back, differ_across}
-use Rattle.cg_svspec.proofs.Widths.{net_names, OneWidth, one_width, nets_after, declared_after, differ_behind, Wide, is_flop, nexts_fit}
+use Rattle.cg_svspec.proofs.Widths.{net_names, OneWidth, one_width, nets_after, declared_after, differ_behind, Wide, is_flop, nexts_fit, driven_wide}
 
 -- ---- states at reset have their widths
 
@@ -266,18 +266,55 @@ known_wide m v one ins driven of_inputs of_driven n w a d = split (among_parts n
   split (inl b) = let has = of_inputs n b in has.wide ∙ one n has.width w (declared_after (port_nets m.ports) m.entries n has.width has.declared) d
   split (inr b) = let has = of_driven n b in has.wide ∙ one n has.width w has.declared d
 
--- A well-formed register module's states have their widths from reset on.
-pub states_fit : RegisterStatesFit
-states_fit m well is =
+-- in a valuation
+wide_at_start : (m : Module) → WellFormed m → IsRegister m → (inputs state v next : Values) → HasWidths m inputs state → Valuation m inputs state v next
+    → Wide v (nets_after (port_nets m.ports) m.entries) (inputs_of m.ports ++ instance_driven (inputs_of m.ports) m.entries)
+wide_at_start m well is inputs state v next widths valuation =
+    let ins = inputs_of m.ports in
+    let driven = instance_driven ins m.entries in
+    known_wide m v (module_one_width m well) ins driven (input_has v inputs m.ports valuation.inputs_hold widths.inputs_fit)
+    (driven_has ins v state next (port_nets m.ports) (ins ++ driven) m.entries well.entries_fit is.entries valuation.entries_hold widths.states_fit)
+
+-- outputs have their widths where each of the names has
+each_output : (v : Values) (ps : List Port) → ((n : List ℕ) (w : ℕ) → Among n (outputs_of ps) → Declares (port_nets ps) n w → length (v n) ≡ w) → AllOf (OutputFits v) ps
+each_output v [] wide = tt
+each_output v (p ∷ ps) wide = by (each_output v ps) p.input wide where
+  by : (((n : List ℕ) (w : ℕ) → Among n (outputs_of ps) → Declares (port_nets ps) n w → length (v n) ≡ w) → AllOf (OutputFits v) ps) → (b : Bool)
+      → ((n : List ℕ) (w : ℕ) → Among n (cond b (outputs_of ps) (p.name ∷ outputs_of ps)) → Declares (port_nets (p ∷ ps)) n w → length (v n) ≡ w)
+      → cond b (Unit {0}) (length (v p.name) ≡ p.width) × AllOf (OutputFits v) ps
+  by later true wide = (tt, later (λ n w a d. wide n w a (inr d)))
+  by later false wide = (wide p.name p.width (inl refl) (inl (refl, refl)), later (λ n w a d. wide n w (inr a) (inr d)))
+
+-- one of names that are all among others
+of_them : (ns known : List (List ℕ)) → AllAmong ns known → (n : List ℕ) → Among n ns → Among n known
+of_them [] known all n a = absurd a
+of_them (m ∷ ns) known all n (inl e) = subst (λ z. Among z known) (sym e) all.0
+of_them (m ∷ ns) known all n (inr a) = of_them ns known all.1 n a
+
+-- nets with an expression, and those that instances drive
+drivers_wide : (v : Values) (all : List Net) (given ins driven : List (List ℕ)) → Wide v all given → Wide v all (ins ++ driven) → Wide v all (given ++ driven)
+drivers_wide v all given ins driven expressions known n w a d = split (among_parts n given driven a) where
+  split : Among n given ⊎ Among n driven → length (v n) ≡ w
+  split (inl b) = expressions n w b d
+  split (inr b) = known n w (among_back n ins driven b) d
+
+-- A well-formed register module's states have their widths from reset on, and so have its outputs.
+pub keeps_widths : RegisterKeepsWidths
+keeps_widths m well is =
     let ins = inputs_of m.ports in
     let driven = instance_driven ins m.entries in
     let one = module_one_width m well in
     record {
       reset_exists = (reset_states m.entries, all_reset ins (reset_states m.entries) m.entries is.entries (differ_back (expression_driven m.entries) driven well.drivers_differ) (λ n a. refl));
       reset_fits = λ state reset. resets_fit ins state (port_nets m.ports) (ins ++ driven) m.entries well.entries_fit is.entries reset;
+      outputs_fit = λ inputs state v next widths valuation.
+          let known = wide_at_start m well is inputs state v next widths valuation in
+          let all = nets_after (port_nets m.ports) m.entries in
+          let wide = drivers_wide v all (expression_driven m.entries) ins driven
+          (driven_wide ins v state next all (port_nets m.ports) (ins ++ driven) m.entries one (λ n w d. d) known well.entries_fit valuation.entries_hold) known in
+          each_output v m.ports
+          (λ n w a d. wide n w (of_them (outputs_of m.ports) (expression_driven m.entries ++ driven) well.outputs_driven n a) (declared_after (port_nets m.ports) m.entries n w d));
       next_fits = λ inputs state v next widths valuation.
           nexts_fit ins v state next (nets_after (port_nets m.ports) m.entries) (port_nets m.ports) (ins ++ driven) m.entries one (λ n w d. d)
-          (known_wide m v one ins driven (input_has v inputs m.ports valuation.inputs_hold widths.inputs_fit)
-          (driven_has ins v state next (port_nets m.ports) (ins ++ driven) m.entries well.entries_fit is.entries valuation.entries_hold widths.states_fit))
-          well.entries_fit is.entries valuation.entries_hold;
+          (wide_at_start m well is inputs state v next widths valuation) well.entries_fit is.entries valuation.entries_hold;
     }
