@@ -1,3 +1,7 @@
+pub mod Covered
+pub mod Widths
+pub mod KeepsWidths
+pub mod FirstRepeat
 pub mod Runs
 pub mod Numerals
 pub mod Longest
@@ -17,7 +21,3 @@ pub mod BitLists
 pub mod WellNames
 pub mod WellCounts
 pub mod WellSound
-pub mod Covered
-pub mod Widths
-pub mod KeepsWidths
-pub mod FirstRepeat

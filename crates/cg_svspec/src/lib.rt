@@ -14,6 +14,18 @@ ghost use Rattle.cg_svspec.specs.Names.{FirstRepeatIsFirst};
 ghost use Rattle.cg_svspec.specs.Register.{RegisterHasValuation, RegisterKeepsWidths};
 ghost use Rattle.cg_svspec.specs.Stands.{PrintedTextStands, TextStandsForOneList};
 
+/// A well-formed register module has states at reset; they have their widths, and so have its outputs, and the states after
+/// each clock.
+pub fn register_keeps_widths()
+    ensures { RegisterKeepsWidths }
+{}
+
+/// What is found as the first repeat is the name at the least place whose name stands earlier too, and nothing is found
+/// just where no name stands twice.
+pub fn first_repeat_is_first()
+    ensures { FirstRepeatIsFirst }
+{}
+
 /// What is printed stands for just the module that was printed.
 pub fn printed_text_stands()
     ensures { PrintedTextStands }
@@ -27,16 +39,4 @@ pub fn text_stands_for_one_list()
 /// A well-formed register module has a valuation for all inputs and states of their widths.
 pub fn register_has_valuation()
     ensures { RegisterHasValuation }
-{}
-
-/// A well-formed register module has states at reset; they have their widths, and so have its outputs, and the states after
-/// each clock.
-pub fn register_keeps_widths()
-    ensures { RegisterKeepsWidths }
-{}
-
-/// What is found as the first repeat is the name at the least place whose name stands earlier too, and nothing is found
-/// just where no name stands twice.
-pub fn first_repeat_is_first()
-    ensures { FirstRepeatIsFirst }
 {}
