@@ -5,6 +5,9 @@
 //! `cg_desc` defines it on lists of bits, and hold for every kind, all values and all strobes of
 //! fields of up to 32 bits. Both functions are total under their conditions and take no memory.
 //!
+//! No other crate calls them yet: they are for what steps a block's fields in software. The block's step
+//! and the law of its register module cite the same table, so such a model and the hardware agree.
+//!
 //! Not promised: anything of a field's place in its register, of write enables, or of fields of
 //! external registers, which store nothing. Whether hardware may write the field is the caller's
 //! to say, by its strobe.

@@ -54,7 +54,7 @@ neither (Some a) b e = absurd (let bad : Some a ≡ None = e in cc)
 -- ---- meanings
 
 abbrev pub Acts : LaidBlock → LaidFace → Type 0
-Acts laid face = RegisterMeans (module_of_face laid face) face
+Acts laid face = RegisterMeans (register_module_name laid.desc.name face.name) (module_of_face laid face) face
 
 each_acts : RegisterModuleMeans → (laid : LaidBlock) (faces : List LaidFace) → IsName laid.desc.name → AllOf (λ l. IsNameIfAny l.name) faces → AllOf IsLaid faces
     → first_clash (map (module_of_face laid) faces) ≡ None → AllOf (Acts laid) faces

@@ -1,1 +1,2 @@
 pub mod FaultOrder
+pub mod OneTarget

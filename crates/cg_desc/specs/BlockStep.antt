@@ -1,9 +1,9 @@
 -- The step of a register block in one clock. It takes a target and the clock's wires, decodes no address, and knows no wire of
 -- the text that is written (OpenTitan Register Tool; TL-UL register adapter, its register side).
 use Rattle.std.specs.Prelude.{◌≡◌, ℕ, suc, ◌+◌, ◌-◌, ◌/◌, max, eqb, Bool, true, false, not, cond, ◌&&◌, ◌||◌, List, [], ◌∷◌, ◌++◌, take, drop, Option, Some, None}
-use Rattle.std.specs.Str.{str_eq_ignore_ascii_case}
 use Rattle.cg_svspec.specs.Bits.{Bits, bits, any_bit, all_bits, zeros, ones}
 use Rattle.cg_desc.specs.AccessTable.{is_readable, is_writable, hardware_writes, hardware_sees, after_hardware, next_value}
+use Rattle.cg_desc.specs.Gates.{register_named}
 use Rattle.cg_desc.specs.Target.{Target, register, word, error}
 use Rattle.cg_desc.specs.declared.block.SwAccess.{SwAccess}
 use Rattle.cg_desc.specs.declared.block.SwAccess.TheVariants.{Ro, Wo}
@@ -126,17 +126,6 @@ is_at (register j) i = eqb j i
 is_at (word j index) i = eqb j i
 is_at error i = false
 
-abbrev pub has_name : RegDesc → List ℕ → Bool
-has_name r name = str_eq_ignore_ascii_case r.name name
-
--- the register of the name among the rows, which is compared without regard to case
-abbrev pub register_named : List LaidRow → List ℕ → Option RegDesc
-register_named [] name = None
-register_named (row ∷ rows) name = found row.item (register_named rows name) where
-  found : Item → Option RegDesc → Option RegDesc
-  found (Reg r) later = cond (has_name r name) (Some r) later
-  found item later = later
-
 -- the first field of a gating register, which has just one, holds a value other than 0
 abbrev pub is_open_at : Fields → Option RegDesc → Bool
 is_open_at fields None = false
@@ -175,6 +164,16 @@ shows_qe r f = cond r.hwext (is_writable f.sw) r.hwqe
 
 abbrev pub shows_re : RegDesc → FieldDesc → Bool
 shows_re r f = cond r.hwext (is_readable f.sw) r.hwre
+
+-- ---- what hardware brings
+
+-- a value for a stored field that it writes, and for one of an external register that software reads
+abbrev pub brings_d : RegDesc → FieldDesc → Bool
+brings_d r f = cond r.hwext (is_readable f.sw) (hardware_writes f.hw)
+
+-- a strobe with it, for a stored field
+abbrev pub brings_de : RegDesc → FieldDesc → Bool
+brings_de r f = not r.hwext && hardware_writes f.hw
 
 -- ---- the step
 

@@ -1,8 +1,8 @@
 -- When a laid interface is whole: its rows at their places, its fields in order, its gates there.
-use Rattle.std.specs.Prelude.{◌≡◌, ℕ, suc, ◌+◌, ◌-◌, ◌*◌, ◌^◌, ◌<◌, ◌≤◌, true, false, List, [], ◌∷◌, Option, Some, None}
+use Rattle.std.specs.Prelude.{◌≡◌, ℕ, suc, ◌-◌, ◌*◌, ◌^◌, ◌<◌, ◌≤◌, true, List, [], ◌∷◌, Option, Some, None}
 use Rattle.cg_svspec.specs.Characters.{IsWord}
-use Rattle.cg_desc.specs.AccessTable.{is_readable}
-use Rattle.cg_desc.specs.BlockStep.{register_named}
+use Rattle.cg_desc.specs.Target.{row_end}
+use Rattle.cg_desc.specs.Gates.{register_named, is_gate}
 use Rattle.cg_desc.specs.declared.block.SwAccess.{SwAccess}
 use Rattle.cg_desc.specs.declared.block.SwAccess.TheVariants.{Ro, Rw, Wo}
 use Rattle.cg_desc.specs.declared.block.FieldDesc.{FieldDesc}
@@ -24,17 +24,10 @@ abbrev pub HasField : List FieldDesc → Type 0
 HasField [] = ⊥
 HasField (f ∷ fs) = Unit {0}
 
--- a gate has exactly one field, of width 1, which is stored and readable
-abbrev pub IsGate : RegDesc → Type 0
-IsGate g = (g.hwext ≡ false) × OneBit g.fields where
-  OneBit : List FieldDesc → Type 0
-  OneBit [] = ⊥
-  OneBit (f ∷ []) = (f.msb ≡ f.lsb) × (is_readable f.sw ≡ true)
-  OneBit (f ∷ (g ∷ fs)) = ⊥
-
+-- there is a register, and it can gate others
 abbrev pub IsGateAt : Option RegDesc → Type 0
 IsGateAt None = ⊥
-IsGateAt (Some g) = IsGate g
+IsGateAt (Some g) = is_gate g ≡ true
 
 -- the gate that a register names is one of the interface
 abbrev pub GateFits : List LaidRow → Option (List ℕ) → Type 0
@@ -78,7 +71,7 @@ RowFits rows row = ItemFits row.item where
 -- the rows stand in the order of their offsets, from this offset on, and none reaches into the next
 abbrev pub RowsFit : List LaidRow → ℕ → List LaidRow → Type 0
 RowsFit all low [] = low ≤ 2 ^ 24
-RowsFit all low (row ∷ rows) = (low ≤ row.first) × RowFits all row × RowsFit all (row.first + 4 * row.words) rows
+RowsFit all low (row ∷ rows) = (low ≤ row.first) × RowFits all row × RowsFit all (row_end row) rows
 
 abbrev pub HasRow : List LaidRow → Type 0
 HasRow [] = ⊥

@@ -1,7 +1,9 @@
 pub mod AccessTable
 pub mod Target
 pub mod Address
+pub mod Gates
 pub mod BlockStep
+pub mod BlockRun
 pub mod Laid
 pub mod Items
 pub mod Offsets

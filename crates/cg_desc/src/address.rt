@@ -1,7 +1,8 @@
 //! What stands at an address.
 
 ghost use Rattle.std.specs.Prelude.{◌≡◌, ◌+◌, ◌-◌, ◌*◌, ◌/◌, ◌^◌, ◌<◌, ◌≤◌, length};
-ghost use Rattle.cg_desc.specs.Address.{place_of};
+ghost use Rattle.cg_desc.specs.Address.{place_of, IsPlaceAt, EachAddressHasOneTarget};
+ghost use Rattle.cg_desc.specs.Laid.{IsLaid};
 ghost use Rattle.cg_desc.specs.Target.{aligned, holds_address, target_in, target_at};
 
 use crate::block::{Item, LaidFace, LaidRow};
@@ -70,11 +71,13 @@ impl LaidFace {
     /// What stands at an address of the interface, for every address of 32 bits: the low two bits do not count, and
     /// `Error` is answered exactly where no register and no word of a window is. It takes no memory.
     ///
-    /// The interface has fewer than 2^32 rows.
+    /// The interface has fewer than 2^32 rows. Where rows overlap, which no laid interface's do, the first one counts.
     pub fn find(&self, addr: u32) -> Place
         requires { length self.now.rows < 2 ^ 32 }
-        ensures { result ≡ place_of (target_at self.now addr) }
+        ensures place { IsLaid self.now → IsPlaceAt self.now addr result }
+        ensures first { result ≡ place_of (target_at self.now addr) }
     {
+        each_address_has_one_target();
         for (number, row) in self.rows.as_slice().iter().enumerate() {
             if holds_address(row, addr) {
                 return place_in(number as u32, row, addr);
@@ -83,3 +86,8 @@ impl LaidFace {
         Place::Error
     }
 }
+
+/// Each address of a laid interface is just one thing: a register, a word of a window, or nothing.
+pub fn each_address_has_one_target()
+    ensures { EachAddressHasOneTarget }
+{}

@@ -16,7 +16,7 @@ mod fault;
 mod fault_line;
 mod place;
 
-pub use address::Place;
+pub use address::{Place, each_address_has_one_target};
 pub use block::{
     AlertDesc, BlockDesc, ClockDesc, FaceDesc, FaceItems, FieldDesc, HostFace, HwAccess, IntrDesc,
     IoDesc, IoDir, Item, LaidBlock, LaidFace, LaidRow, MultiDesc, RegDesc, SwAccess, WindowDesc,

@@ -1,8 +1,9 @@
 -- The constants of a block are the places, bits and reset values of its registers and windows.
-use Rattle.std.proofs.Common.{◌≡◌, ℕ, suc, ◌+◌, ◌*◌, ◌^◌, ◌≤◌, eqb, Bool, true, false, cond, List, [], ◌∷◌, map, inl, inr, refl, arith}
+use Rattle.std.proofs.Common.{◌≡◌, ℕ, suc, ◌+◌, ◌*◌, ◌^◌, ◌≤◌, eqb, Bool, true, false, cond, List, [], ◌∷◌, map, slice_get, inl, inr, refl, ap, arith}
 use Rattle.std.specs.List.{flat_map}
 use Rattle.std.proofs.lemmas.Bool.{eqb-true, eq-eqb}
 use Rattle.cg_svspec.specs.Printable.{AllOf}
+use Rattle.cg_desc.specs.Target.{row_end}
 use Rattle.cg_desc.specs.BlockStep.{EachRow, EachField}
 use Rattle.cg_desc.specs.Laid.{FieldsFit, RowFits, RowsFit, IsLaid}
 use Rattle.cg_desc.specs.declared.block.FieldDesc.{FieldDesc}
@@ -18,7 +19,7 @@ use Rattle.cg_hdrspec.specs.Meaning.{FieldAgrees, one_bit, some_bits, ItemAgrees
 use Rattle.cg_hdrspec.proofs.Lists.{all_front, all_back, all_weaker}
 use Rattle.cg_hdrspec.proofs.FieldBits.{mask_has_bits, one_has_bit}
 use Rattle.cg_hdrspec.proofs.ResetWord.{reset_word_is}
-use Rattle.cg_hdrspec.proofs.Places.{Ahead, ahead_later, register_place, window_place}
+use Rattle.cg_hdrspec.proofs.Places.{From, from_later, register_place, window_place}
 
 -- the constants have this definition
 abbrev pub Given : List Constant → Definition → Type 0
@@ -55,35 +56,35 @@ fields_agree cs register from (f ∷ fs) fit given = (
 
 -- ---- rows
 
-item_agrees : (cs : List Constant) (prefix : List ℕ) (face : LaidFace) (i low first words : ℕ) (item : Item) (rows : List LaidRow) → low ≤ first
-    → RowFits face.rows (record { first = first; words = words; item = item }) → Ahead face i low (record { first = first; words = words; item = item } ∷ rows)
+item_agrees : (cs : List Constant) (prefix : List ℕ) (face : LaidFace) (i first words : ℕ) (item : Item) (rows : List LaidRow)
+    → RowFits face.rows (record { first = first; words = words; item = item }) → From face i (record { first = first; words = words; item = item } ∷ rows)
     → AllOf (Given cs) (item_definitions prefix first item) → ItemAgrees cs prefix face i item
 unfolding item_definitions register_definitions window_definitions
-item_agrees cs prefix face i low first words (Reg r) rows up fits ahead given = record {
+item_agrees cs prefix face i first words (Reg r) rows fits from given = record {
   offset = first;
   has_offset = given.0;
-  is_place = register_place face i low first words fits.1.0 r rows up ahead fits.0 fits.1.1;
+  is_place = register_place face i first words fits.1.0 r rows from fits.0 fits.1.1;
   reset = reset_word r.fields;
   has_reset = given.1.0;
   is_reset = reset_word_is r.fields fits.2.fields;
   fields = fields_agree cs (row_name prefix r.name) 0 r.fields fits.2.fields given.1.1;
 }
-item_agrees cs prefix face i low first words (Window w) rows up fits ahead given = record {
+item_agrees cs prefix face i first words (Window w) rows fits from given = record {
   offset = first;
   has_offset = given.0;
   has_words = given.1.0;
-  are_places = λ k few. let same = fits.0 in window_place face i low first words (2 ^ fits.1.power * fits.1.turn) k w rows up ahead fits.1.aligned (omega arith);
+  are_places = λ k few. let same = fits.0 in window_place face i first words (2 ^ fits.1.power * fits.1.turn) k w rows from fits.1.aligned (omega arith);
   has_bytes = given.1.1.0;
 }
-item_agrees cs prefix face i low first words (SkipTo to at) rows up fits ahead given = absurd fits
-item_agrees cs prefix face i low first words (Reserved spare at) rows up fits ahead given = absurd fits
+item_agrees cs prefix face i first words (SkipTo to at) rows fits from given = absurd fits
+item_agrees cs prefix face i first words (Reserved spare at) rows fits from given = absurd fits
 
-rows_agree : (cs : List Constant) (prefix : List ℕ) (face : LaidFace) (i low : ℕ) (rows : List LaidRow) → RowsFit face.rows low rows → Ahead face i low rows
+rows_agree : (cs : List Constant) (prefix : List ℕ) (face : LaidFace) (i low : ℕ) (rows : List LaidRow) → RowsFit face.rows low rows → From face i rows
     → AllOf (Given cs) (flat_map (row_definitions prefix) rows) → EachRow (ItemAgrees cs prefix face) i rows
-rows_agree cs prefix face i low [] fit ahead given = tt
-rows_agree cs prefix face i low (row ∷ rows) fit ahead given = (
-  item_agrees cs prefix face i low row.first row.words row.item rows fit.0 fit.1 ahead (all_front (Given cs) (row_definitions prefix row) (flat_map (row_definitions prefix) rows) given),
-  rows_agree cs prefix face (i + 1) (row.first + 4 * row.words) rows fit.2 (ahead_later face i low row rows fit.0 ahead)
+rows_agree cs prefix face i low [] fit from given = tt
+rows_agree cs prefix face i low (row ∷ rows) fit from given = (
+  item_agrees cs prefix face i row.first row.words row.item rows fit.1 from (all_front (Given cs) (row_definitions prefix row) (flat_map (row_definitions prefix) rows) given),
+  rows_agree cs prefix face (i + 1) (row_end row) rows fit.2 (from_later face i row rows from)
       (all_back (Given cs) (row_definitions prefix row) (flat_map (row_definitions prefix) rows) given),
 )
 
@@ -91,4 +92,4 @@ rows_agree cs prefix face i low (row ∷ rows) fit ahead given = (
 pub face_agrees : (cs : List Constant) (block : List ℕ) (face : LaidFace) → IsLaid face → AllOf (Given cs) (face_definitions block face)
     → EachRow (ItemAgrees cs (prefix_of block face.name) face) 0 face.rows
 unfolding face_definitions
-face_agrees cs block face laid given = rows_agree cs (prefix_of block face.name) face 0 0 face.rows laid.rows (λ address above. refl) given
+face_agrees cs block face laid given = rows_agree cs (prefix_of block face.name) face 0 0 face.rows laid.rows (λ k. let same : 0 + k ≡ k = omega arith in ap (slice_get face.rows) same) given

@@ -2,7 +2,7 @@
 use Rattle.std.specs.Prelude.{◌≡◌, ℕ, ◌+◌, ◌*◌, ◌/◌, ◌%◌, ◌^◌, ◌<◌, ◌≤◌, suc, ◌-◌, List}
 use Rattle.cg_svspec.specs.Names.{Differ}
 use Rattle.cg_desc.specs.BlockStep.{EachRow, EachField}
-use Rattle.cg_desc.specs.Target.{target_at, register, word}
+use Rattle.cg_desc.specs.Target.{register, word, IsTarget}
 use Rattle.cg_desc.specs.declared.block.FieldDesc.{FieldDesc}
 use Rattle.cg_desc.specs.declared.block.RegDesc.{RegDesc}
 use Rattle.cg_desc.specs.declared.block.WindowDesc.{WindowDesc}
@@ -38,7 +38,7 @@ pub record IsResetWord (value : ℕ) (fields : List FieldDesc) : Type 0 where
 pub record RegisterAgrees (cs : List Constant) (prefix : List ℕ) (face : LaidFace) (i : ℕ) (r : RegDesc) : Type 0 where
   pub offset : ℕ
   pub has_offset : Among (constant (offset_of (row_name prefix r.name)) offset) cs
-  pub is_place : target_at face offset ≡ register i
+  pub is_place : IsTarget face offset (register i)
   pub reset : ℕ
   pub has_reset : Among (constant (reset_of (row_name prefix r.name)) reset) cs
   pub is_reset : IsResetWord reset r.fields
@@ -49,7 +49,7 @@ pub record WindowAgrees (cs : List Constant) (prefix : List ℕ) (face : LaidFac
   pub offset : ℕ
   pub has_offset : Among (constant (offset_of (row_name prefix w.name)) offset) cs
   pub has_words : Among (constant (words_of (row_name prefix w.name)) w.items) cs
-  pub are_places : (k : ℕ) → k < w.items → target_at face (offset + 4 * k) ≡ word i k
+  pub are_places : (k : ℕ) → k < w.items → IsTarget face (offset + 4 * k) (word i k)
   pub has_bytes : Among (constant (bytes_of (row_name prefix w.name)) (4 * w.items)) cs
 
 abbrev pub ItemAgrees : List Constant → List ℕ → LaidFace → ℕ → Item → Type 0

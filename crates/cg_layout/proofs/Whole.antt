@@ -8,7 +8,7 @@ use Rattle.std.proofs.Math.Pow.{pow_mono}
 use Rattle.cg_base.specs.Arithmetic.{IsLeastMultiple}
 use Rattle.cg_svspec.specs.Printable.{AllOf}
 use Rattle.cg_desc.specs.AccessTable.{is_readable}
-use Rattle.cg_desc.specs.BlockStep.{has_name, register_named}
+use Rattle.cg_desc.specs.Gates.{has_name, register_named}
 use Rattle.cg_desc.specs.declared.block.FieldDesc.{FieldDesc}
 use Rattle.cg_desc.specs.declared.block.RegDesc.{RegDesc}
 use Rattle.cg_desc.specs.declared.block.WindowDesc.{WindowDesc}
@@ -21,13 +21,14 @@ use Rattle.cg_desc.specs.declared.block.LaidFace.{LaidFace}
 use Rattle.cg_desc.specs.declared.block.LaidBlock.{LaidBlock}
 use Rattle.cg_desc.specs.declared.block.BlockDesc.{BlockDesc}
 use Rattle.cg_desc.specs.Items.{items_of_block}
-use Rattle.cg_desc.specs.Laid.{GateFits, HasRow, IsGate, IsGateAt, IsLaid, RowFits, RowsFit, WindowFits}
+use Rattle.cg_desc.specs.Laid.{GateFits, HasRow, IsGateAt, IsLaid, RowFits, RowsFit, WindowFits}
 use Rattle.cg_desc.specs.Offsets.{Ends, HasRows, IsLaidOut, IsSpan}
 use Rattle.cg_desc.specs.Valid.{IsValidItem, IsValidRegister, IsValidWindow}
 use Rattle.cg_finding.specs.Finding.{Among, Finding}
 use Rattle.cg_layout.specs.Inner.Gates.{has_row}
 use Rattle.cg_layout.specs.Lays.{AreLaidOut, IsLaidBlock}
-use Rattle.cg_layout.specs.Violations.{BreaksIn, Violates, end_limit, is_gate, register_among}
+use Rattle.cg_desc.specs.Gates.{is_gate, register_among}
+use Rattle.cg_layout.specs.Violations.{BreaksIn, Violates, end_limit}
 use Rattle.cg_layout.proofs.Ends.{power_within}
 use Rattle.cg_layout.proofs.Faces.{some_violates}
 use Rattle.cg_layout.proofs.Gating.{row_missing}
@@ -36,26 +37,6 @@ use Rattle.cg_layout.proofs.Lists.{contains}
 use Rattle.cg_layout.proofs.Placing.{AreUnbroken, AreValid, unbroken_first, unbroken_later}
 
 -- ---- gates
-
--- the parts of a test that holds
-both : (b c : Bool) → (b && c) ≡ true → (b ≡ true) × (c ≡ true)
-both true c e = (refl, e)
-both false c e = cc
-
--- a register that is a gate by the test, by its storage and its fields
-gate_by : (g : RegDesc) (external : Bool) (fields : List FieldDesc) → is_gate (record g { hwext = external; fields = fields }) ≡ true
-    → IsGate (record g { hwext = external; fields = fields })
-gate_by g true fields e = cc
-gate_by g false [] e = cc
-gate_by g false (f ∷ []) e =
-    let one = both (f.msb == f.lsb) (is_readable f.sw && not f.mubi) e in
-    let readable = both (is_readable f.sw) (not f.mubi) one.1 in
-    (refl, (eqb-true f.msb f.lsb one.0, readable.0))
-gate_by g false (f ∷ (h ∷ fields)) e = cc
-
--- a register that is a gate by the test is one
-gate_is_gate : (g : RegDesc) → is_gate g ≡ true → IsGate g
-gate_is_gate g e = gate_by g g.hwext g.fields e
 
 -- the rows have the registers of the items
 named_alike : {low top end : ℕ} {items : List Item} {rows : List LaidRow} → HasRows low top items rows end → (name : List ℕ)
@@ -72,8 +53,8 @@ IsGood face items = (f : Finding) → ¬ BreaksIn face items f
 
 -- there the register that a register names is a gate
 module _ (face : FaceDesc) (items : List Item) (good : IsGood face items) (r : RegDesc) (has : Contains items (Reg r)) where
-  is_gate_by : (name : List ℕ) (g : RegDesc) (b : Bool) → r.regwen ≡ Some name → register_among items name ≡ Some g → is_gate g ≡ b → IsGate g
-  is_gate_by name g true e is h = gate_is_gate g h
+  is_gate_by : (name : List ℕ) (g : RegDesc) (b : Bool) → r.regwen ≡ Some name → register_among items name ≡ Some g → is_gate g ≡ b → is_gate g ≡ true
+  is_gate_by name g true e is h = h
   is_gate_by name g false e is h = absurd (good _ (BreaksIn.bad_regwen r g has e is h))
 
   gate_there : (name : List ℕ) (gate : Option RegDesc) → r.regwen ≡ Some name → register_among items name ≡ gate → IsGateAt gate

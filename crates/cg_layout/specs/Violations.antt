@@ -8,30 +8,10 @@ use Rattle.cg_desc.specs.declared.block.Item.TheVariants.{Reg, Window, SkipTo, R
 use Rattle.cg_desc.specs.declared.block.FaceDesc.{FaceDesc}
 use Rattle.cg_desc.specs.declared.block.FaceItems.{FaceItems}
 use Rattle.cg_desc.specs.declared.block.BlockDesc.{BlockDesc}
-use Rattle.cg_desc.specs.AccessTable.{is_readable}
-use Rattle.cg_desc.specs.BlockStep.{has_name}
+use Rattle.cg_desc.specs.Gates.{is_gate, register_among}
 use Rattle.cg_desc.specs.Items.{items_of_block}
 use Rattle.cg_desc.specs.Offsets.{Ends}
 use Rattle.cg_finding.specs.Finding.{Finding, finding}
-
--- ---- gates
-
--- the first register among the items that has the name, without regard to case
-abbrev pub register_among : List Item → List ℕ → Option RegDesc
-register_among [] name = None
-register_among (Reg r ∷ items) name = if has_name r name then Some r else register_among items name
-register_among (item ∷ items) name = register_among items name
-
--- one bit that is stored, can be read and is no multi-bit boolean
-abbrev pub is_gate_field : FieldDesc → Bool
-is_gate_field f = (f.msb == f.lsb) && (is_readable f.sw && not f.mubi)
-
--- a gate stores exactly one such field
-abbrev pub is_gate : RegDesc → Bool
-is_gate g = not g.hwext && is_sole g.fields where
-  is_sole : List FieldDesc → Bool
-  is_sole (f ∷ []) = is_gate_field f
-  is_sole _ = false
 
 -- ---- offsets
 

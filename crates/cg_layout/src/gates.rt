@@ -6,7 +6,7 @@ ghost use Rattle.cg_desc.specs.AccessTable.{is_readable};
 ghost use Rattle.cg_finding.specs.Finding.{first_of};
 ghost use Rattle.cg_finding.specs.Found.{sees};
 ghost use Rattle.cg_layout.specs.Inner.Gates.{faults_of_gate, faults_of_regwen, gate_faults};
-ghost use Rattle.cg_layout.specs.Violations.{is_gate, is_gate_field, register_among};
+ghost use Rattle.cg_desc.specs.Gates.{is_gate, is_gate_field, register_among};
 
 use cg_base::Text;
 use cg_desc::{FieldDesc, Item, RegDesc, SwAccess};

@@ -1,5 +1,5 @@
 -- The next values of fields, and what hardware sees of them.
-use Rattle.std.proofs.Common.{◌≡◌, ℕ, Bool, true, false, not, cond, ◌&&◌, List, [], ◌∷◌, ◌++◌, length, refl, ◌∙◌}
+use Rattle.std.proofs.Common.{◌≡◌, ℕ, Bool, true, false, not, cond, ◌&&◌, List, [], ◌∷◌, ◌++◌, length, refl, ap, ◌∙◌}
 use Rattle.std.proofs.lemmas.Bool.{not-true}
 use Rattle.cg_svspec.specs.Bits.{Bits, chosen}
 use Rattle.cg_svspec.specs.Tree.{Expression, net, pick, Entry, assign}
@@ -13,10 +13,11 @@ use Rattle.cg_desc.specs.declared.block.FieldDesc.{FieldDesc}
 use Rattle.cg_desc.specs.declared.block.RegDesc.{RegDesc}
 use Rattle.cg_desc.specs.declared.block.LaidFace.{LaidFace}
 use Rattle.cg_regspec.specs.NetNames.{reg_wdata, we, re, state_net, hold_net, q_net, qe_net, re_net, d_net, de_net}
-use Rattle.cg_regspec.specs.RegisterModule.{width_of, takes_d, written_bits, next_of, entry_if, field_views, field_updates, field_entries, fields_entries}
+use Rattle.cg_regspec.specs.RegisterModule.{width_of, hardware_sets, has_q, has_qe, has_re, has_d, written_bits, next_of, entry_if, field_views, field_updates, field_entries, fields_entries}
 use Rattle.cg_regspec.specs.Meaning.{bit_of, fields_in, hardware_in, outcome_in}
 use Rattle.cg_svspec.proofs.BitLists.{bits-zero, bits-ones}
 use Rattle.cg_svspec.proofs.Parts.{hold_front, hold_back}
+use Rattle.cg_regspec.proofs.Tables.{sets_is, has_q_is, has_qe_is, has_re_is}
 use Rattle.cg_regspec.proofs.Wires.{CarryAccess, FieldWires}
 use Rattle.cg_regspec.proofs.Items.{slice_is}
 
@@ -63,12 +64,12 @@ wide_by true x y w e g = e
 wide_by false x y w e g = g
 
 -- the value after hardware, by whether hardware writes the field
-held : (v state next inputs : Values) (r : RegDesc) (f : FieldDesc) (writes : Bool) → r.hwext ≡ false → hardware_writes f.hw ≡ writes → FieldWires v state next inputs r f
+held : (v state next inputs : Values) (r : RegDesc) (f : FieldDesc) (writes : Bool) → r.hwext ≡ false → hardware_sets f.hw ≡ writes → FieldWires v state next inputs r f
     → Held v state inputs r f writes
 held v state next inputs r f false inside by wires = record { is = wires.stored inside; wide = wires.stored_width inside }
 held v state next inputs r f true inside by wires =
-    let takes : cond r.hwext false (hardware_writes f.hw) ≡ true = rw (inside, by) refl in
-    let brings : takes_d r f ≡ true = rw (inside, by) refl in
+    let takes : cond r.hwext false (hardware_sets f.hw) ≡ true = rw (inside, by) refl in
+    let brings : has_d r f ≡ true = rw (inside, by) refl in
     record {
       is = rw (wires.strobe takes, wires.brought brings, wires.stored inside) (chosen_by (inputs (de_net r f)) (inputs (d_net r f)) (state (state_net r f)));
       wide = wide_by (bit_of (inputs (de_net r f))) (inputs (d_net r f)) (state (state_net r f)) (width_of f) (wires.brought_width brings) (wires.stored_width inside);
@@ -86,9 +87,10 @@ next_stored : (v state next inputs : Values) (a : Access) (i : ℕ) (r : RegDesc
     → next (state_net r f) ≡ next_value f.sw takes_we takes_re (bits_of_field f a.data_in)
     (after_hardware (hardware_writes f.hw && bit_of (inputs (de_net r f))) (inputs (d_net r f)) (state (state_net r f)))
 next_stored v state next inputs a i r f takes_we takes_re carry wes res wires inside holds =
-    let after = held v state next inputs r f (hardware_writes f.hw) inside refl wires in
+    let after = held v state next inputs r f (hardware_sets f.hw) inside refl wires in
     wires.stored_next inside
     ∙ (holds.1.0 ∙ next_is v f.sw i (written_bits f) (hold_net r f) (width_of f) takes_we takes_re (bits_of_field f a.data_in) _ wes res (written_is v a f carry) (holds.0 ∙ after.is) after.wide)
+    ∙ ap (λ b. next_value f.sw takes_we takes_re (bits_of_field f a.data_in) (after_hardware (b && bit_of (inputs (de_net r f))) (inputs (d_net r f)) (state (state_net r f)))) (sets_is f.hw)
 
 -- ---- what hardware sees
 
@@ -105,9 +107,9 @@ value_by v state next inputs a r f false is carry wires = wires.stored is
 
 -- the views of a field, where it has them
 record Views (v state : Values) (a : Access) (r : RegDesc) (f : FieldDesc) (takes_we takes_re : Bool) : Type 0 where
-  value_seen : shows_q r f ≡ true → v (q_net r f) ≡ cond r.hwext (bits_of_field f a.data_in) (state (state_net r f))
-  write_seen : shows_qe r f ≡ true → bit_of (v (qe_net r f)) ≡ takes_we
-  read_seen : shows_re r f ≡ true → bit_of (v (re_net r f)) ≡ takes_re
+  value_seen : has_q r f ≡ true → v (q_net r f) ≡ cond r.hwext (bits_of_field f a.data_in) (state (state_net r f))
+  write_seen : has_qe r f ≡ true → bit_of (v (qe_net r f)) ≡ takes_we
+  read_seen : has_re r f ≡ true → bit_of (v (re_net r f)) ≡ takes_re
 
 -- the bit of a net that has another's one bit
 first_bit : (xs ys : Bits) (b : Bool) → xs ≡ ys → ys ≡ b ∷ [] → bit_of xs ≡ b
@@ -117,14 +119,14 @@ first_bit xs ys b e g = rw (e, g) refl
 views : (v state next inputs : Values) (a : Access) (i : ℕ) (r : RegDesc) (f : FieldDesc) (takes_we takes_re : Bool) → CarryAccess v a → v (we i) ≡ takes_we ∷ [] → v (re i) ≡ takes_re ∷ []
     → FieldWires v state next inputs r f → AllHold v state next (field_views i r f) → Views v state a r f takes_we takes_re
 views v state next inputs a i r f takes_we takes_re carry wes res wires holds =
-    let value_view = entry_if (shows_q r f) (assign (q_net r f) (cond r.hwext (written_bits f) (net (state_net r f)))) in
-    let write_view = entry_if (shows_qe r f) (assign (qe_net r f) (net (we i))) in
-    let read_view = entry_if (shows_re r f) (assign (re_net r f) (net (re i))) in
+    let value_view = entry_if (has_q r f) (assign (q_net r f) (cond r.hwext (written_bits f) (net (state_net r f)))) in
+    let write_view = entry_if (has_qe r f) (assign (qe_net r f) (net (we i))) in
+    let read_view = entry_if (has_re r f) (assign (re_net r f) (net (re i))) in
     let later = hold_back v state next value_view (write_view ++ read_view) holds in
     record {
-      value_seen = λ e. entry_there v state next (shows_q r f) _ (hold_front v state next value_view (write_view ++ read_view) holds) e ∙ value_by v state next inputs a r f r.hwext refl carry wires;
-      write_seen = λ e. first_bit (v (qe_net r f)) (v (we i)) takes_we (entry_there v state next (shows_qe r f) (assign (qe_net r f) (net (we i))) (hold_front v state next write_view read_view later) e) wes;
-      read_seen = λ e. first_bit (v (re_net r f)) (v (re i)) takes_re (entry_there v state next (shows_re r f) (assign (re_net r f) (net (re i))) (hold_back v state next write_view read_view later) e) res;
+      value_seen = λ e. entry_there v state next (has_q r f) _ (hold_front v state next value_view (write_view ++ read_view) holds) e ∙ value_by v state next inputs a r f r.hwext refl carry wires;
+      write_seen = λ e. first_bit (v (qe_net r f)) (v (we i)) takes_we (entry_there v state next (has_qe r f) (assign (qe_net r f) (net (we i))) (hold_front v state next write_view read_view later) e) wes;
+      read_seen = λ e. first_bit (v (re_net r f)) (v (re i)) takes_re (entry_there v state next (has_re r f) (assign (re_net r f) (net (re i))) (hold_back v state next write_view read_view later) e) res;
     }
 
 -- ---- the step of each field of a register in row i
@@ -141,9 +143,9 @@ field_steps v state next inputs face target a i r f carry wes res wires holds =
       stored = where_true (not r.hwext) _
           (λ e. next_stored v state next inputs a i r f (takes_write face target a (fields_in state) i r) (takes_read face target a i) carry wes res wires (not-true r.hwext e)
           (updates_hold v state next i r f r.hwext updates (not-true r.hwext e)));
-      value_seen = where_true (shows_q r f) _ seen.value_seen;
-      write_seen = where_true (shows_qe r f) _ seen.write_seen;
-      read_seen = where_true (shows_re r f) _ seen.read_seen;
+      value_seen = where_true (shows_q r f) _ (λ e. seen.value_seen (has_q_is r f ∙ e));
+      write_seen = where_true (shows_qe r f) _ (λ e. seen.write_seen (has_qe_is r f ∙ e));
+      read_seen = where_true (shows_re r f) _ (λ e. seen.read_seen (has_re_is r f ∙ e));
     }
 
 -- the step of all fields of a register

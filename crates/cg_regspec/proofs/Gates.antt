@@ -4,8 +4,9 @@ use Rattle.std.proofs.Math.Bool.{and-true}
 use Rattle.cg_svspec.specs.Bits.{Bits, any_bit, zipped}
 use Rattle.cg_svspec.specs.Tree.{Expression, net, and}
 use Rattle.cg_svspec.specs.Value.{Values, eval}
-use Rattle.cg_desc.specs.BlockStep.{has_name, register_named, is_open, is_open_at}
-use Rattle.cg_desc.specs.Laid.{IsGate, IsGateAt, GateFits}
+use Rattle.cg_desc.specs.Gates.{has_name, register_named}
+use Rattle.cg_desc.specs.BlockStep.{is_open, is_open_at}
+use Rattle.cg_desc.specs.Laid.{IsGateAt, GateFits}
 use Rattle.cg_desc.specs.declared.block.FieldDesc.{FieldDesc}
 use Rattle.cg_desc.specs.declared.block.RegDesc.{RegDesc}
 use Rattle.cg_desc.specs.declared.block.Item.{Item}
@@ -13,8 +14,9 @@ use Rattle.cg_desc.specs.declared.block.Item.TheVariants.{Reg, Window, SkipTo, R
 use Rattle.cg_desc.specs.declared.block.LaidRow.{LaidRow}
 use Rattle.cg_desc.specs.declared.block.LaidFace.{LaidFace}
 use Rattle.cg_regspec.specs.NetNames.{state_net}
-use Rattle.cg_regspec.specs.RegisterModule.{gate_net, gate_of, gated}
+use Rattle.cg_regspec.specs.RegisterModule.{gate_of, gated}
 use Rattle.cg_regspec.specs.Meaning.{fields_in}
+use Rattle.cg_regspec.proofs.Tables.{OneBit, gate_parts, first_net, gate_net_is}
 use Rattle.cg_regspec.proofs.Wires.{RegisterWires, RowsWires, ItemWires}
 
 -- the nets of a register, if there is one
@@ -58,27 +60,27 @@ cut_by : (v : Values) (x : Expression) (b : Bool) (n : List ℕ) (bit : Bits) �
 cut_by v x b n bit holds is one = rw (holds, is) (one_bit_cuts b bit one)
 
 -- the gate of this register, whose fields are these
-gate_with : (v state next inputs : Values) (g : RegDesc) (fs : List FieldDesc) (x : Expression) (b : Bool) → IsGate (record g { fields = fs })
+gate_with : (v state next inputs : Values) (g : RegDesc) (fs : List FieldDesc) (x : Expression) (b : Bool) → (g.hwext ≡ false) × OneBit fs
     → RegisterWires v state next inputs (record g { fields = fs }) → eval v x ≡ b ∷ []
-    → eval v (gated x (gate_net (Some (record g { fields = fs })))) ≡ (b && is_open_at (fields_in state) (Some (record g { fields = fs }))) ∷ []
+    → eval v (gated x (first_net (Some (record g { fields = fs })))) ≡ (b && is_open_at (fields_in state) (Some (record g { fields = fs }))) ∷ []
 gate_with v state next inputs g [] x b gate wires holds = absurd gate.1
 gate_with v state next inputs g (f ∷ []) x b gate wires holds =
     let net = state_net (record g { fields = f ∷ [] }) f in
-    cut_by v x b net (state net) holds (wires.0.stored gate.0) (wires.0.stored_width gate.0 ∙ one_wide f.msb f.lsb gate.1.0)
+    cut_by v x b net (state net) holds (wires.0.stored gate.0) (wires.0.stored_width gate.0 ∙ one_wide f.msb f.lsb gate.1)
 gate_with v state next inputs g (f ∷ (h ∷ fs)) x b gate wires holds = absurd gate.1
 
 -- the gate, if there is one of the name
 gate_at : (v state next inputs : Values) (o : Option RegDesc) (x : Expression) (b : Bool) → IsGateAt o → WiresAt v state next inputs o → eval v x ≡ b ∷ []
-    → eval v (gated x (gate_net o)) ≡ (b && is_open_at (fields_in state) o) ∷ []
+    → eval v (gated x (first_net o)) ≡ (b && is_open_at (fields_in state) o) ∷ []
 gate_at v state next inputs None x b gate wires holds = absurd gate
-gate_at v state next inputs (Some g) x b gate wires holds = gate_with v state next inputs g g.fields x b gate wires holds
+gate_at v state next inputs (Some g) x b gate wires holds = gate_with v state next inputs g g.fields x b (gate_parts g gate) wires holds
 
 -- with and without a gate
 gate_by : (v state next inputs : Values) (face : LaidFace) (r : RegDesc) (o : Option (List ℕ)) → RowsWires v state next inputs face.rows → GateFits face.rows o
     → (x : Expression) (b : Bool) → eval v x ≡ b ∷ [] → eval v (gated x (gate_of face.rows o)) ≡ (b && is_open face (fields_in state) (record r { regwen = o })) ∷ []
 gate_by v state next inputs face r None wires fits x b holds = holds ∙ ap (λ z. z ∷ []) (sym (and-true b))
 gate_by v state next inputs face r (Some name) wires fits x b holds =
-    gate_at v state next inputs (register_named face.rows name) x b fits (named_wires v state next inputs face.rows name wires) holds
+    rw (gate_net_is face.rows name) (gate_at v state next inputs (register_named face.rows name) x b fits (named_wires v state next inputs face.rows name wires) holds)
 
 -- a register's write wire is cut by its gate, if it has one
 pub gate_cuts : (v state next inputs : Values) (face : LaidFace) (r : RegDesc) → RowsWires v state next inputs face.rows → GateFits face.rows r.regwen

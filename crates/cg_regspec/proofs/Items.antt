@@ -8,6 +8,8 @@ use Rattle.cg_svspec.specs.Value.{Values, eval}
 use Rattle.cg_desc.specs.Target.{holds_address}
 use Rattle.cg_desc.specs.BlockStep.{Access, is_read_only, is_write_only}
 use Rattle.cg_desc.specs.Laid.{RegisterFits, WindowFits, RowFits}
+use Rattle.cg_desc.specs.declared.block.SwAccess.{SwAccess}
+use Rattle.cg_desc.specs.declared.block.SwAccess.TheVariants.{Ro, Wo}
 use Rattle.cg_desc.specs.declared.block.RegDesc.{RegDesc}
 use Rattle.cg_desc.specs.declared.block.WindowDesc.{WindowDesc}
 use Rattle.cg_desc.specs.declared.block.Item.{Item}
@@ -15,10 +17,11 @@ use Rattle.cg_desc.specs.declared.block.Item.TheVariants.{Reg, Window, SkipTo, R
 use Rattle.cg_desc.specs.declared.block.LaidRow.{LaidRow}
 use Rattle.cg_desc.specs.declared.block.LaidFace.{LaidFace}
 use Rattle.cg_regspec.specs.NetNames.{reg_be}
-use Rattle.cg_regspec.specs.RegisterModule.{slice, lacks_strobe}
+use Rattle.cg_regspec.specs.RegisterModule.{slice, lacks_strobe, last_byte, window_write_refused, window_read_refused}
 use Rattle.cg_regspec.specs.Meaning.{fields_in, hardware_in}
 use Rattle.cg_svspec.proofs.BitLists.{any_bit-not, take_whole}
 use Rattle.cg_regspec.proofs.Hits.{register_hit, window_hit}
+use Rattle.cg_regspec.proofs.Tables.{last_byte_is}
 use Rattle.cg_regspec.proofs.Wires.{CarryAccess, ItemWires, RowsWires}
 use Rattle.cg_regspec.proofs.Words.{register_word}
 use Rattle.cg_regspec.proofs.Gates.{gate_cuts}
@@ -44,12 +47,11 @@ pub slice_is : (v : Values) (n : List ℕ) (width msb lsb : ℕ) → length (v n
 slice_is v n width msb lsb wide = slice_by v n width msb lsb wide (eqb lsb 0 && eqb (suc msb) width) refl
 
 -- some byte of those up to the last one needed is not strobed
-lacks_is : (v : Values) (a : Access) (last : ℕ) → CarryAccess v a → eval v (lacks_strobe (suc last)) ≡ not (all_bits (take (suc last) a.strobes)) ∷ []
+lacks_is : (v : Values) (a : Access) (last : ℕ) → CarryAccess v a → eval v (lacks_strobe last) ≡ not (all_bits (take (suc last) a.strobes)) ∷ []
 lacks_is v a last carry =
-    let back : suc last - 1 ≡ last = omega arith in
     let less : suc last - 0 ≡ suc last = omega arith in
     let wide : length (v reg_be) ≡ 4 = rw carry.strobes carry.strobes_width in
-    let part : eval v (slice reg_be 4 (suc last - 1) 0) ≡ take (suc last) a.strobes = slice_is v reg_be 4 (suc last - 1) 0 wide ∙ rw (back, carry.strobes, less) refl in
+    let part : eval v (slice reg_be 4 last 0) ≡ take (suc last) a.strobes = slice_is v reg_be 4 last 0 wide ∙ rw (carry.strobes, less) refl in
     ap (λ b. b ∷ []) (rw (part, any_bit-not) refl)
 
 -- there are four strobes
@@ -57,18 +59,18 @@ all_four : (a : Access) → length a.strobes ≡ 4 → take 4 a.strobes ≡ a.st
 all_four a wide = take_whole 4 a.strobes wide
 
 -- which writes a window refuses
-window_writes : (v : Values) (a : Access) (read_only bytes : Bool) → CarryAccess v a
-    → eval v (cond read_only (lit 1 1) (cond bytes (lit 1 0) (lacks_strobe 4))) ≡ not (not read_only && (bytes || all_bits a.strobes)) ∷ []
+window_writes : (v : Values) (a : Access) (sw : SwAccess) (bytes : Bool) → CarryAccess v a
+    → eval v (window_write_refused sw bytes) ≡ not (not (is_read_only sw) && (bytes || all_bits a.strobes)) ∷ []
 unfolding bits
-window_writes v a true bytes carry = refl
-window_writes v a false true carry = refl
-window_writes v a false false carry = lacks_is v a 3 carry ∙ rw (all_four a carry.strobes_width) refl
+window_writes v a Ro bytes carry = refl
+window_writes v a sw true carry = refl
+window_writes v a sw false carry = lacks_is v a 3 carry ∙ rw (all_four a carry.strobes_width) refl
 
 -- which reads a window refuses
-window_reads : (v : Values) (write_only : Bool) → eval v (cond write_only (lit 1 1) (lit 1 0)) ≡ not (not write_only || false) ∷ []
+window_reads : (v : Values) (sw : SwAccess) → eval v (window_read_refused sw) ≡ not (not (is_write_only sw) || false) ∷ []
 unfolding bits
-window_reads v true = refl
-window_reads v false = refl
+window_reads v Wo = refl
+window_reads v sw = refl
 
 -- a register refuses no read
 no_refusal : (v : Values) → eval v (lit 1 0) ≡ false ∷ []
@@ -82,7 +84,8 @@ pub register_tells : (v state next inputs : Values) (face : LaidFace) (a : Acces
     → RowTells v face a (fields_in state) (hardware_in inputs) (record { first = first; words = words; item = Reg r }) here
 register_tells v state next inputs face a first words turn r here carry all wires one start low fits is = record {
   hits = register_hit v a.address turn (record { first = first; words = words; item = Reg r }) r carry.address carry.small one start low ∙ ap (λ b. b ∷ []) is;
-  write_refusal = lacks_is v a _ carry;
+  write_refusal = lacks_is v a (last_byte 0 r.fields) carry
+      ∙ ap (λ k. not (all_bits (take (suc k) a.strobes)) ∷ []) (last_byte_is 0 0 r.fields fits.fields fits.some_field);
   read_refusal = no_refusal v;
   gate = gate_cuts v state next inputs face r all fits.gate;
   word = register_word v state next inputs r wires;
@@ -95,8 +98,8 @@ pub window_tells : (v state next inputs : Values) (face : LaidFace) (a : Access)
     → RowTells v face a (fields_in state) (hardware_in inputs) (record { first = first; words = words; item = Window w }) here
 window_tells v state next inputs face a first words w here carry wires count fits low is = record {
   hits = window_hit v a.address (record { first = first; words = words; item = Window w }) w carry.address carry.small count fits low ∙ ap (λ b. b ∷ []) is;
-  write_refusal = window_writes v a (is_read_only w.sw) w.byte_write carry;
-  read_refusal = window_reads v (is_write_only w.sw);
+  write_refusal = window_writes v a w.sw w.byte_write carry;
+  read_refusal = window_reads v w.sw;
   gate = λ x b holds. holds ∙ ap (λ z. z ∷ []) (sym (and-true b));
   word = wires;
 }

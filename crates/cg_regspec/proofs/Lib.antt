@@ -1,3 +1,4 @@
+pub mod Tables
 pub mod Targets
 pub mod Hits
 pub mod Wires
@@ -10,6 +11,7 @@ pub mod Answer
 pub mod Fields
 pub mod Steps
 pub mod Resets
+pub mod PortsAre
 pub mod Means
 pub mod WellNames
 pub mod WellDrivers
@@ -23,3 +25,5 @@ pub mod WellFields
 pub mod WellFlops
 pub mod WellModule
 pub mod Law
+pub mod RunsAre
+pub mod Carried

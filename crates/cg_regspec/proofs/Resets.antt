@@ -4,7 +4,7 @@ use Rattle.cg_svspec.specs.Printable.{AllOf}
 use Rattle.cg_svspec.specs.Bits.{bits}
 use Rattle.cg_svspec.specs.Tree.{Expression, net, assign}
 use Rattle.cg_svspec.specs.Value.{Values, IsReset, IsResetIn}
-use Rattle.cg_desc.specs.BlockStep.{Where, EachField, EachRow, shows_q, shows_qe, shows_re}
+use Rattle.cg_desc.specs.BlockStep.{Where, EachField, EachRow}
 use Rattle.cg_desc.specs.declared.block.FieldDesc.{FieldDesc}
 use Rattle.cg_desc.specs.declared.block.RegDesc.{RegDesc}
 use Rattle.cg_desc.specs.declared.block.Item.{Item}
@@ -12,7 +12,7 @@ use Rattle.cg_desc.specs.declared.block.Item.TheVariants.{Reg, Window, SkipTo, R
 use Rattle.cg_desc.specs.declared.block.LaidRow.{LaidRow}
 use Rattle.cg_desc.specs.declared.block.LaidFace.{LaidFace}
 use Rattle.cg_regspec.specs.NetNames.{rd, state_net}
-use Rattle.cg_regspec.specs.RegisterModule.{width_of, register_module, entry_if, states_of, item_states, rows_states, rows_entries, all_ones, answer_entries, field_updates, field_views, field_entries, fields_entries, item_fields, rows_fields, item_windows, rows_windows, flops_of, item_flops, rows_flops}
+use Rattle.cg_regspec.specs.RegisterModule.{width_of, has_q, has_qe, has_re, register_module, entry_if, states_of, item_states, rows_states, rows_entries, all_ones, answer_entries, field_updates, field_views, field_entries, fields_entries, item_fields, rows_fields, item_windows, rows_windows, flops_of, item_flops, rows_flops}
 use Rattle.cg_regspec.specs.Meaning.{ItemIsReset, FieldsAreReset}
 use Rattle.cg_svspec.proofs.Parts.{all_front, all_back, all_join}
 
@@ -117,8 +117,8 @@ view_free state false n x = tt
 -- the assigns of a field's outputs
 views_free : (state : Values) (i : ℕ) (r : RegDesc) (f : FieldDesc) → AllOf (IsResetIn state) (field_views i r f)
 views_free state i r f =
-    all_join (IsResetIn state) (entry_if (shows_q r f) _) _ (view_free state (shows_q r f) _ _)
-    (all_join (IsResetIn state) (entry_if (shows_qe r f) _) (entry_if (shows_re r f) _) (view_free state (shows_qe r f) _ _) (view_free state (shows_re r f) _ _))
+    all_join (IsResetIn state) (entry_if (has_q r f) _) _ (view_free state (has_q r f) _ _)
+    (all_join (IsResetIn state) (entry_if (has_qe r f) _) (entry_if (has_re r f) _) (view_free state (has_qe r f) _ _) (view_free state (has_re r f) _ _))
 
 -- a field's wires
 updates_free : (state : Values) (i : ℕ) (r : RegDesc) (f : FieldDesc) (external : Bool) → AllOf (IsResetIn state) (cond external [] (field_updates i r f))

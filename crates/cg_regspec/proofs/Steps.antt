@@ -1,13 +1,14 @@
 -- A valuation of a register module is the step of its interface's register block.
-use Rattle.std.proofs.Common.{◌≡◌, ℕ, ◌+◌, Bool, true, false, not, ◌&&◌, ◌||◌, List, [], ◌∷◌, ◌++◌, length, refl, ap, sym, ◌∙◌}
+use Rattle.std.proofs.Common.{◌≡◌, ℕ, ◌+◌, Bool, true, false, not, ◌&&◌, ◌||◌, List, [], ◌∷◌, ◌++◌, length, refl, ap, sym, subst, ◌∙◌}
 use Rattle.std.proofs.Math.Bool.{and-false, and-true}
 use Rattle.cg_svspec.specs.Printable.{AllOf}
 use Rattle.cg_svspec.specs.Tree.{Expression, net}
 use Rattle.cg_svspec.specs.Register.{access_ports}
 use Rattle.cg_svspec.specs.Value.{Values, Valuation, HasWidths, AllHold, InputHolds, InputFits, StateFitsIn}
-use Rattle.cg_desc.specs.Target.{Target, target_at}
+use Rattle.cg_desc.specs.Target.{Target, IsTarget, target_at}
 use Rattle.cg_desc.specs.BlockStep.{Access, is_read, is_write, is_accepted, is_error, is_at, WindowSteps, ItemSteps, EachRow, BlockStep}
 use Rattle.cg_desc.specs.Laid.{IsLaid}
+use Rattle.cg_desc.proofs.OneTarget.{each_address_has_one_target}
 use Rattle.cg_desc.specs.declared.block.WindowDesc.{WindowDesc}
 use Rattle.cg_desc.specs.declared.block.Item.{Item}
 use Rattle.cg_desc.specs.declared.block.Item.TheVariants.{Reg, Window, SkipTo, Reserved}
@@ -133,14 +134,22 @@ flops_fit state face fit =
     (all_back (StateFitsIn state) (answer_entries face.rows) _
     (all_back (StateFitsIn state) (rows_entries face.rows 0 all_ones face.rows) _ (all_back (StateFitsIn state) (rows_states face.rows) _ fit))))
 
--- each valuation of the register module is the block's step at what the address is
-pub module_steps : (name : List ℕ) (face : LaidFace) → IsLaid face → (inputs state v next : Values) (a : Access) → HasWidths (register_module name face) inputs state → Carries inputs a
+-- each valuation of the register module is the block's step at what going down the rows finds
+step_at : (name : List ℕ) (face : LaidFace) → IsLaid face → (inputs state v next : Values) (a : Access) → HasWidths (register_module name face) inputs state → Carries inputs a
     → Valuation (register_module name face) inputs state v next → BlockStep face (target_at face a.address) a (fields_in state) (hardware_in inputs) (outcome_in v next)
 unfolding register_module
-module_steps name face laid inputs state v next a widths carries valuation =
+step_at name face laid inputs state v next a widths carries valuation =
     let parts = groups v state next face valuation.entries_hold in
     let carry = carry_access v inputs a carries (all_front (InputHolds v inputs) access_ports (rows_ports face.rows) valuation.inputs_hold)
     (all_front (InputFits inputs) access_ports (rows_ports face.rows) widths.inputs_fit) in
     let wires = rows_wires v state next inputs face.rows parts.flops (flops_fit state face widths.states_fit)
     (all_back (InputHolds v inputs) access_ports (rows_ports face.rows) valuation.inputs_hold) (all_back (InputFits inputs) access_ports (rows_ports face.rows) widths.inputs_fit) in
     step_of_groups inputs state v next face a laid carry wires parts
+
+-- and so at what the address is
+pub module_steps : (name : List ℕ) (face : LaidFace) → IsLaid face → (inputs state v next : Values) (a : Access) (target : Target) → HasWidths (register_module name face) inputs state
+    → Carries inputs a → IsTarget face a.address target → Valuation (register_module name face) inputs state v next
+    → BlockStep face target a (fields_in state) (hardware_in inputs) (outcome_in v next)
+module_steps name face laid inputs state v next a target widths carries is valuation =
+    subst (λ t. BlockStep face t a (fields_in state) (hardware_in inputs) (outcome_in v next)) (sym ((each_address_has_one_target face laid a.address).one target is))
+    (step_at name face laid inputs state v next a widths carries valuation)

@@ -4,7 +4,6 @@ use Rattle.cg_svspec.specs.Tree.{Expression, Port, Entry, wire, drive, assign, i
 use Rattle.cg_svspec.specs.Printable.{AllOf}
 use Rattle.cg_svspec.specs.Register.{input_port, output_port}
 use Rattle.cg_svspec.specs.WellFormed.{instance_driven, driven_by_connections, inputs_of, outputs_of}
-use Rattle.cg_desc.specs.BlockStep.{shows_q, shows_qe, shows_re}
 use Rattle.cg_desc.specs.declared.block.FieldDesc.{FieldDesc}
 use Rattle.cg_desc.specs.declared.block.RegDesc.{RegDesc}
 use Rattle.cg_desc.specs.declared.block.Item.{Item}
@@ -12,7 +11,7 @@ use Rattle.cg_desc.specs.declared.block.Item.TheVariants.{Reg, Window, SkipTo, R
 use Rattle.cg_desc.specs.declared.block.LaidRow.{LaidRow}
 use Rattle.cg_desc.specs.declared.block.LaidFace.{LaidFace}
 use Rattle.cg_regspec.specs.NetNames.{reg_error, reg_rdata, state_net, q_net, qe_net, re_net, d_net, de_net}
-use Rattle.cg_regspec.specs.RegisterModule.{width_of, port_if, takes_d, takes_de, field_ports, fields_ports, item_ports, rows_ports, states_of, item_states, rows_states, rows_entries, all_ones, answer_entries, entry_if, field_views, field_updates, field_entries, fields_entries, item_fields, rows_fields, item_windows, rows_windows, flops_of, item_flops, rows_flops, register_entries, register_module}
+use Rattle.cg_regspec.specs.RegisterModule.{width_of, has_q, has_qe, has_re, port_if, has_d, has_de, field_ports, fields_ports, item_ports, rows_ports, states_of, item_states, rows_states, rows_entries, all_ones, answer_entries, entry_if, field_views, field_updates, field_entries, fields_entries, item_fields, rows_fields, item_windows, rows_windows, flops_of, item_flops, rows_flops, register_entries, register_module}
 use Rattle.cg_svspec.proofs.Parts.{all_join}
 use Rattle.cg_svspec.proofs.WellCounts.{count, count-append, plain_of, assigned_of, Balanced}
 
@@ -101,8 +100,8 @@ updates_driven false i r f = (tt, (tt, tt))
 field_driven : (i : ℕ) (r : RegDesc) (f : FieldDesc) → AllOf IsDriven (field_entries i r f)
 field_driven i r f =
     all_join IsDriven (cond r.hwext [] (field_updates i r f)) (field_views i r f) (updates_driven r.hwext i r f)
-    (all_join IsDriven (entry_if (shows_q r f) _) _ (view_driven (shows_q r f) _ _)
-    (all_join IsDriven (entry_if (shows_qe r f) _) _ (view_driven (shows_qe r f) _ _) (view_driven (shows_re r f) _ _)))
+    (all_join IsDriven (entry_if (has_q r f) _) _ (view_driven (has_q r f) _ _)
+    (all_join IsDriven (entry_if (has_qe r f) _) _ (view_driven (has_qe r f) _ _) (view_driven (has_re r f) _ _)))
 
 -- of all fields of a register
 fields_driven : (i : ℕ) (r : RegDesc) (fs : List FieldDesc) → AllOf IsDriven (fields_entries i r fs)
@@ -227,17 +226,17 @@ updates_assign_none true i r f = refl
 updates_assign_none false i r f = refl
 
 -- what hardware brings is no output
-brought_no_output : (r : RegDesc) (f : FieldDesc) → outputs_of (port_if (takes_d r f) (input_port (width_of f) (d_net r f)) ++ port_if (takes_de r f) (input_port 1 (de_net r f))) ≡ []
+brought_no_output : (r : RegDesc) (f : FieldDesc) → outputs_of (port_if (has_d r f) (input_port (width_of f) (d_net r f)) ++ port_if (has_de r f) (input_port 1 (de_net r f))) ≡ []
 brought_no_output r f =
-    outputs-append (port_if (takes_d r f) (input_port (width_of f) (d_net r f))) (port_if (takes_de r f) (input_port 1 (de_net r f)))
-    ∙ rw (no_output (takes_d r f) (width_of f) (d_net r f), no_output (takes_de r f) 1 (de_net r f)) refl
+    outputs-append (port_if (has_d r f) (input_port (width_of f) (d_net r f))) (port_if (has_de r f) (input_port 1 (de_net r f)))
+    ∙ rw (no_output (has_d r f) (width_of f) (d_net r f), no_output (has_de r f) 1 (de_net r f)) refl
 
 -- just the outputs of a field are assigned among its entries
 field_outputs : (i : ℕ) (r : RegDesc) (f : FieldDesc) → assigned_of (field_entries i r f) ≡ outputs_of (field_ports r f)
 field_outputs i r f =
     assigned-append (cond r.hwext [] (field_updates i r f)) (field_views i r f)
     ∙ (ap (λ z. z ++ assigned_of (field_views i r f)) (updates_assign_none r.hwext i r f)
-    ∙ views_assigned (shows_q r f) (shows_qe r f) (shows_re r f) (q_net r f) (qe_net r f) (re_net r f) _ _ _ (width_of f) _ (brought_no_output r f))
+    ∙ views_assigned (has_q r f) (has_qe r f) (has_re r f) (q_net r f) (qe_net r f) (re_net r f) _ _ _ (width_of f) _ (brought_no_output r f))
 
 -- those of all fields of a register
 fields_outputs : (i : ℕ) (r : RegDesc) (fs : List FieldDesc) → assigned_of (fields_entries i r fs) ≡ outputs_of (fields_ports r fs)

@@ -3,8 +3,7 @@ use Rattle.std.proofs.Common.{◌≡◌, ℕ, suc, ◌+◌, ◌-◌, ◌^◌, �
 use Rattle.std.proofs.lemmas.Nat.{pow_pos}
 use Rattle.cg_svspec.specs.Characters.{IsName, IsWord}
 use Rattle.cg_svspec.specs.Tree.{Expression, net, pick, Entry, assign}
-use Rattle.cg_desc.specs.AccessTable.{hardware_writes}
-use Rattle.cg_desc.specs.BlockStep.{shows_q, shows_qe, shows_re, EachField}
+use Rattle.cg_desc.specs.BlockStep.{EachField}
 use Rattle.cg_desc.specs.declared.block.SwAccess.{SwAccess}
 use Rattle.cg_desc.specs.declared.block.SwAccess.TheVariants.{Ro, Rc, Rw, R0w1c, Rw1s, Rw1c, Rw0c, Wo, Nothing}
 use Rattle.cg_desc.specs.declared.block.FieldDesc.{FieldDesc}
@@ -14,7 +13,7 @@ use Rattle.cg_desc.specs.declared.block.Item.{Item}
 use Rattle.cg_desc.specs.declared.block.Item.TheVariants.{Reg, Window, SkipTo, Reserved}
 use Rattle.cg_desc.specs.declared.block.LaidRow.{LaidRow}
 use Rattle.cg_regspec.specs.NetNames.{reg_wdata, we, re, state_net, hold_net, next_net, q_net, qe_net, re_net, d_net, de_net, window_we, window_re, window_addr, window_wdata}
-use Rattle.cg_regspec.specs.RegisterModule.{width_of, written_bits, zero_bits, one_bits, next_of, hold_of, entry_if, field_views, field_updates, field_entries, fields_entries, item_fields, rows_fields, item_windows, rows_windows}
+use Rattle.cg_regspec.specs.RegisterModule.{width_of, hardware_sets, has_q, has_qe, has_re, written_bits, zero_bits, one_bits, next_of, hold_of, entry_if, field_views, field_updates, field_entries, fields_entries, item_fields, rows_fields, item_windows, rows_windows}
 use Rattle.cg_regspec.proofs.WellNames.{field_name}
 use Rattle.cg_svspec.proofs.WellSound.{Above, Up, Declared, Has, up_up, declared_up, has_up, Sound, sound_deeper, sound_net, sound_lit, sound_inv, sound_and, sound_or, sound_pick, with_drive, with_assign, after, up_drive, up_assign, up_after, drive_has, Sounds, sounds_none, sounds_drive, sounds_assign, sounds_join}
 use Rattle.cg_regspec.proofs.WellSlices.{sound_slice}
@@ -56,8 +55,8 @@ next_sound Rc i w write read some narrow d h = sound_deeper (chosen_by (omega ar
 
 -- the value after hardware, of a stored field
 hold_sound : {e : Above} (b : Above) (r : RegDesc) (f : FieldDesc) → r.hwext ≡ false → FieldGiven b r f → Up b e → Sound e 2 (hold_of r f) (width_of f)
-hold_sound {e} b r f stored given up = by (hardware_writes f.hw) refl where
-  by : (t : Bool) → hardware_writes f.hw ≡ t → Sound e 2 (cond t (pick (net (de_net r f)) (net (d_net r f)) (net (state_net r f))) (net (state_net r f))) (width_of f)
+hold_sound {e} b r f stored given up = by (hardware_sets f.hw) refl where
+  by : (t : Bool) → hardware_sets f.hw ≡ t → Sound e 2 (cond t (pick (net (de_net r f)) (net (d_net r f)) (net (state_net r f))) (net (state_net r f))) (width_of f)
   by true is =
       sound_pick (sound_net 1 (omega arith) (has_up up (given.strobe (rw (stored, is) refl)))) (sound_net 1 (omega arith) (has_up up (given.brought (rw (stored, is) refl))))
       (sound_net 1 (omega arith) (has_up up (given.state stored)))
@@ -101,14 +100,14 @@ seen_sound b false r f is access given up fit = sound_net 1 (omega arith) (has_u
 views_sound : {inputs : List (List ℕ)} (b c e : Above) (i : ℕ) (r : RegDesc) (f : FieldDesc) → AccessGiven b → RowHas c i → FieldGiven b r f → Up b e → Up c e → FieldFits f
     → Sounds inputs e (field_views i r f)
 views_sound b c e i r f access row given up cup fit =
-    let q : List Entry = entry_if (shows_q r f) (assign (q_net r f) (cond r.hwext (written_bits f) (net (state_net r f)))) in
-    let qe : List Entry = entry_if (shows_qe r f) (assign (qe_net r f) (net (we i))) in
-    let re : List Entry = entry_if (shows_re r f) (assign (re_net r f) (net (re i))) in
+    let q : List Entry = entry_if (has_q r f) (assign (q_net r f) (cond r.hwext (written_bits f) (net (state_net r f)))) in
+    let qe : List Entry = entry_if (has_qe r f) (assign (qe_net r f) (net (we i))) in
+    let re : List Entry = entry_if (has_re r f) (assign (re_net r f) (net (re i))) in
     let up1 : Up e (after e q) = up_after e q in
     let up2 : Up e (after (after e q) qe) = up_up up1 (up_after (after e q) qe) in
-    sounds_join e q (qe ++ re) (view_by (shows_q r f) (λ is. declared_up up (given.value_seen is)) (seen_sound b r.hwext r f refl access given up fit))
-    (sounds_join (after e q) qe re (view_by (shows_qe r f) (λ is. declared_up (up_up up up1) (given.write_seen is)) (sound_net 1 (omega arith) (has_up (up_up cup up1) row.write)))
-    (view_by (shows_re r f) (λ is. declared_up (up_up up up2) (given.read_seen is)) (sound_net 1 (omega arith) (has_up (up_up cup up2) row.read))))
+    sounds_join e q (qe ++ re) (view_by (has_q r f) (λ is. declared_up up (given.value_seen is)) (seen_sound b r.hwext r f refl access given up fit))
+    (sounds_join (after e q) qe re (view_by (has_qe r f) (λ is. declared_up (up_up up up1) (given.write_seen is)) (sound_net 1 (omega arith) (has_up (up_up cup up1) row.write)))
+    (view_by (has_re r f) (λ is. declared_up (up_up up up2) (given.read_seen is)) (sound_net 1 (omega arith) (has_up (up_up cup up2) row.read))))
 
 -- the entries of a field fit
 field_sound : {inputs : List (List ℕ)} (b c e : Above) (i : ℕ) (r : RegDesc) (f : FieldDesc) → AccessGiven b → RowHas c i → FieldGiven b r f → Up b e → Up c e → IsWord r.name → FieldFits f

@@ -5,7 +5,7 @@ use Rattle.cg_svspec.specs.Printable.{IsPrintablePort, AllOf}
 use Rattle.cg_svspec.specs.Tree.{Port, Entry, wire, drive, assign, inst}
 use Rattle.cg_svspec.specs.Register.{access_ports, input_port, output_port}
 use Rattle.cg_svspec.specs.WellFormed.{Declares, port_nets, inputs_of}
-use Rattle.cg_desc.specs.BlockStep.{shows_q, shows_qe, shows_re, EachField}
+use Rattle.cg_desc.specs.BlockStep.{EachField}
 use Rattle.cg_desc.specs.declared.block.FieldDesc.{FieldDesc}
 use Rattle.cg_desc.specs.declared.block.RegDesc.{RegDesc}
 use Rattle.cg_desc.specs.declared.block.WindowDesc.{WindowDesc}
@@ -13,7 +13,7 @@ use Rattle.cg_desc.specs.declared.block.Item.{Item}
 use Rattle.cg_desc.specs.declared.block.Item.TheVariants.{Reg, Window, SkipTo, Reserved}
 use Rattle.cg_desc.specs.declared.block.LaidRow.{LaidRow}
 use Rattle.cg_regspec.specs.NetNames.{reg_we, reg_re, reg_addr, reg_wdata, reg_be, reg_rdata, reg_error, state_net, q_net, qe_net, re_net, d_net, de_net, window_we, window_re, window_addr, window_wdata, window_be, window_rdata}
-use Rattle.cg_regspec.specs.RegisterModule.{width_of, port_if, takes_d, takes_de, field_ports, fields_ports, item_ports, rows_ports, states_of, item_states, rows_states}
+use Rattle.cg_regspec.specs.RegisterModule.{width_of, has_q, has_qe, has_re, port_if, has_d, has_de, field_ports, fields_ports, item_ports, rows_ports, states_of, item_states, rows_states}
 use Rattle.cg_svspec.proofs.Parts.{all_front, all_back}
 use Rattle.cg_svspec.proofs.WellCounts.{plain_of}
 use Rattle.cg_svspec.proofs.WellSound.{Above, Declared, Has, GivenBy}
@@ -84,11 +84,11 @@ access_given e others h = record {
 -- a field's nets, where it has them
 pub record FieldGiven (e : Above) (r : RegDesc) (f : FieldDesc) : Type 0 where
   pub state : r.hwext ≡ false → Has e (state_net r f) (width_of f)
-  pub brought : takes_d r f ≡ true → Has e (d_net r f) (width_of f)
-  pub strobe : takes_de r f ≡ true → Has e (de_net r f) 1
-  pub value_seen : shows_q r f ≡ true → Declared e (q_net r f) (width_of f)
-  pub write_seen : shows_qe r f ≡ true → Declared e (qe_net r f) 1
-  pub read_seen : shows_re r f ≡ true → Declared e (re_net r f) 1
+  pub brought : has_d r f ≡ true → Has e (d_net r f) (width_of f)
+  pub strobe : has_de r f ≡ true → Has e (de_net r f) 1
+  pub value_seen : has_q r f ≡ true → Declared e (q_net r f) (width_of f)
+  pub write_seen : has_qe r f ≡ true → Declared e (qe_net r f) 1
+  pub read_seen : has_re r f ≡ true → Declared e (re_net r f) 1
 
 -- of each field of a register
 abbrev pub RegisterGiven : Above → RegDesc → Type 0
@@ -126,22 +126,22 @@ fields_given : (e : Above) (r : RegDesc) (fs : List FieldDesc) → AllOf (PortGi
 fields_given e r [] ports states = tt
 fields_given e r (f ∷ fs) ports states =
     let P = PortGiven e in
-    let q = port_if (shows_q r f) (output_port (width_of f) (q_net r f)) in
-    let qe = port_if (shows_qe r f) (output_port 1 (qe_net r f)) in
-    let re = port_if (shows_re r f) (output_port 1 (re_net r f)) in
-    let d = port_if (takes_d r f) (input_port (width_of f) (d_net r f)) in
-    let de = port_if (takes_de r f) (input_port 1 (de_net r f)) in
+    let q = port_if (has_q r f) (output_port (width_of f) (q_net r f)) in
+    let qe = port_if (has_qe r f) (output_port 1 (qe_net r f)) in
+    let re = port_if (has_re r f) (output_port 1 (re_net r f)) in
+    let d = port_if (has_d r f) (input_port (width_of f) (d_net r f)) in
+    let de = port_if (has_de r f) (input_port 1 (de_net r f)) in
     let here : AllOf P (q ++ (qe ++ (re ++ (d ++ de)))) = all_front P (field_ports r f) (fields_ports r fs) ports in
     let second : AllOf P (qe ++ (re ++ (d ++ de))) = all_back P q _ here in
     let third : AllOf P (re ++ (d ++ de)) = all_back P qe _ second in
     let fourth : AllOf P (d ++ de) = all_back P re _ third in (
       record {
         state = λ stored. (states stored).0;
-        brought = there P (takes_d r f) _ (all_front P d de fourth);
-        strobe = there P (takes_de r f) _ (all_back P d de fourth);
-        value_seen = there P (shows_q r f) _ (all_front P q _ here);
-        write_seen = there P (shows_qe r f) _ (all_front P qe _ second);
-        read_seen = there P (shows_re r f) _ (all_front P re _ third);
+        brought = there P (has_d r f) _ (all_front P d de fourth);
+        strobe = there P (has_de r f) _ (all_back P d de fourth);
+        value_seen = there P (has_q r f) _ (all_front P q _ here);
+        write_seen = there P (has_qe r f) _ (all_front P qe _ second);
+        read_seen = there P (has_re r f) _ (all_front P re _ third);
       },
       fields_given e r fs (all_back P (field_ports r f) (fields_ports r fs) ports) (λ stored. (states stored).1),
     )

@@ -5,9 +5,11 @@ use Rattle.std.proofs.lemmas.Nat.{pow_pos}
 use Rattle.std.proofs.Math.Nat.{div-lt_iff_lt-mul}
 use Rattle.cg_svspec.specs.Printable.{IsLiteral}
 use Rattle.cg_svspec.specs.Tree.{Expression, net, cut, lit, cat, any, equal, Expressions, none, more}
-use Rattle.cg_desc.specs.AccessTable.{is_readable}
-use Rattle.cg_desc.specs.BlockStep.{needed_bytes, is_read_only, is_write_only, has_name, register_named, EachField}
-use Rattle.cg_desc.specs.Laid.{FieldsFit, HasField, IsGate, IsGateAt, GateFits}
+use Rattle.cg_desc.specs.Gates.{has_name, register_named}
+use Rattle.cg_desc.specs.BlockStep.{EachField}
+use Rattle.cg_desc.specs.Laid.{FieldsFit, HasField, IsGateAt, GateFits}
+use Rattle.cg_desc.specs.declared.block.SwAccess.{SwAccess}
+use Rattle.cg_desc.specs.declared.block.SwAccess.TheVariants.{Ro, Wo}
 use Rattle.cg_desc.specs.declared.block.FieldDesc.{FieldDesc}
 use Rattle.cg_desc.specs.declared.block.RegDesc.{RegDesc}
 use Rattle.cg_desc.specs.declared.block.WindowDesc.{WindowDesc}
@@ -15,10 +17,11 @@ use Rattle.cg_desc.specs.declared.block.Item.{Item}
 use Rattle.cg_desc.specs.declared.block.Item.TheVariants.{Reg, Window, SkipTo, Reserved}
 use Rattle.cg_desc.specs.declared.block.LaidRow.{LaidRow}
 use Rattle.cg_regspec.specs.NetNames.{reg_addr, reg_be, state_net, d_net}
-use Rattle.cg_regspec.specs.RegisterModule.{width_of, window_terms, hit_of, lacks_strobe, write_refused, read_refused, gate_net, gate_of, gated, item_gate, gap, shown_part, word_parts, item_word_text}
+use Rattle.cg_regspec.specs.RegisterModule.{width_of, is_in_word, window_terms, hit_of, last_byte, lacks_strobe, window_write_refused, window_read_refused, write_refused, read_refused, gate_of, gated, item_gate, gap, shown_part, word_parts, item_word_text}
 use Rattle.cg_svspec.proofs.WellSound.{Above, Up, Has, has_up, Sound, SoundParts, sound_deeper, sound_net, sound_cut, sound_lit, sound_inv, sound_any, sound_and, sound_equal, sound_none, sound_more, HasPart, sound_cat}
 use Rattle.cg_regspec.proofs.WellSlices.{sound_slice}
-use Rattle.cg_regspec.proofs.WellRows.{FieldFits, field_some, field_narrow, highest_low, WindowOk, ItemOk}
+use Rattle.cg_regspec.proofs.Tables.{OneBit, gate_parts, first_net, gate_net_is}
+use Rattle.cg_regspec.proofs.WellRows.{FieldFits, field_some, field_narrow, last_low, WindowOk, ItemOk}
 use Rattle.cg_regspec.proofs.WellGiven.{FieldGiven, RegisterGiven, ItemGiven, RowsGiven}
 
 -- ---- the hit
@@ -107,32 +110,32 @@ no_sound d some = sound_lit d 1 0 some (omega arith, omega arith, omega arith)
 yes_sound : {e : Above} (d : ℕ) → 0 < d → Sound e d (lit 1 1) 1
 yes_sound d some = sound_lit d 1 1 some (omega arith, omega arith, omega arith)
 
--- so is the test of the strobes of 1 to 4 bytes
-lacks_sound : {e : Above} (bytes : ℕ) → 0 < bytes → bytes ≤ 4 → Has e reg_be 4 → Sound e 3 (lacks_strobe bytes) 1
-lacks_sound bytes some few strobes = sound_any (sound_inv (sound_slice 1 4 (bytes - 1) 0 (omega arith) strobes (omega arith) (omega arith) (omega arith) (omega arith)))
+-- so is the test of the strobes of bytes 0 to k
+lacks_sound : {e : Above} (k : ℕ) → k < 4 → Has e reg_be 4 → Sound e 3 (lacks_strobe k) 1
+lacks_sound k few strobes = sound_any (sound_inv (sound_slice 1 4 k 0 (omega arith) strobes (omega arith) (omega arith) (omega arith) (omega arith)))
 
 -- which writes a window refuses
-window_writes_sound : {e : Above} (read_only bytes : Bool) → Has e reg_be 4 → Sound e 3 (cond read_only (lit 1 1) (cond bytes (lit 1 0) (lacks_strobe 4))) 1
-window_writes_sound true bytes strobes = yes_sound 3 (omega arith)
-window_writes_sound false true strobes = no_sound 3 (omega arith)
-window_writes_sound false false strobes = lacks_sound 4 (omega arith) (omega arith) strobes
+window_writes_sound : {e : Above} (sw : SwAccess) (bytes : Bool) → Has e reg_be 4 → Sound e 3 (window_write_refused sw bytes) 1
+window_writes_sound Ro bytes strobes = yes_sound 3 (omega arith)
+window_writes_sound sw true strobes = no_sound 3 (omega arith)
+window_writes_sound sw false strobes = lacks_sound 3 (omega arith) strobes
 
 -- which reads
-window_reads_sound : {e : Above} (write_only : Bool) → Sound e 3 (cond write_only (lit 1 1) (lit 1 0)) 1
-window_reads_sound true = yes_sound 3 (omega arith)
-window_reads_sound false = no_sound 3 (omega arith)
+window_reads_sound : {e : Above} (sw : SwAccess) → Sound e 3 (window_read_refused sw) 1
+window_reads_sound Wo = yes_sound 3 (omega arith)
+window_reads_sound sw = no_sound 3 (omega arith)
 
 -- the writes that a row refuses
 pub write_refused_sound : {e : Above} (all : List LaidRow) (first : ℕ) (item : Item) → ItemOk all first item → Has e reg_be 4 → Sound e 3 (write_refused item) 1
-write_refused_sound all first (Reg r) ok strobes = lacks_sound (needed_bytes r) (omega arith) (omega (arith, highest_low r.fields ok.each)) strobes
-write_refused_sound all first (Window w) ok strobes = window_writes_sound (is_read_only w.sw) w.byte_write strobes
+write_refused_sound all first (Reg r) ok strobes = lacks_sound (last_byte 0 r.fields) (last_low 0 r.fields (omega arith) ok.each) strobes
+write_refused_sound all first (Window w) ok strobes = window_writes_sound w.sw w.byte_write strobes
 write_refused_sound all first (SkipTo to at) ok strobes = absurd ok
 write_refused_sound all first (Reserved spare at) ok strobes = absurd ok
 
 -- the reads that it refuses
 pub read_refused_sound : {e : Above} (all : List LaidRow) (first : ℕ) (item : Item) → ItemOk all first item → Sound e 3 (read_refused item) 1
 read_refused_sound all first (Reg r) ok = no_sound 3 (omega arith)
-read_refused_sound all first (Window w) ok = window_reads_sound (is_write_only w.sw)
+read_refused_sound all first (Window w) ok = window_reads_sound w.sw
 read_refused_sound all first (SkipTo to at) ok = absurd ok
 read_refused_sound all first (Reserved spare at) ok = absurd ok
 
@@ -166,21 +169,21 @@ one_bit : {e : Above} {n : List ℕ} (m l : ℕ) → m ≡ l → Has e n (suc m 
 one_bit {e} {n} m l same h = let one : suc m - l ≡ 1 = omega arith in subst (λ w. Has e n w) one h
 
 -- an expression with the gate of this register, whose fields are these
-gate_with_sound : {e : Above} {x : Expression} (b : Above) (g : RegDesc) (fs : List FieldDesc) → IsGate (record g { fields = fs }) → RegisterGiven b (record g { fields = fs }) → Up b e
-    → Sound e 4 x 1 → Sound e 5 (gated x (gate_net (Some (record g { fields = fs })))) 1
+gate_with_sound : {e : Above} {x : Expression} (b : Above) (g : RegDesc) (fs : List FieldDesc) → (g.hwext ≡ false) × OneBit fs → RegisterGiven b (record g { fields = fs }) → Up b e
+    → Sound e 4 x 1 → Sound e 5 (gated x (first_net (Some (record g { fields = fs })))) 1
 gate_with_sound b g [] gate given up s = absurd gate.1
-gate_with_sound b g (f ∷ []) gate given up s = sound_and s (sound_net 4 (omega arith) (has_up up (one_bit f.msb f.lsb gate.1.0 (given.0.state gate.0))))
+gate_with_sound b g (f ∷ []) gate given up s = sound_and s (sound_net 4 (omega arith) (has_up up (one_bit f.msb f.lsb gate.1 (given.0.state gate.0))))
 gate_with_sound b g (f ∷ (h ∷ fs)) gate given up s = absurd gate.1
 
 -- with the gate, if there is one of the name
-gate_at_sound : {e : Above} {x : Expression} (b : Above) (o : Option RegDesc) → IsGateAt o → GivenAt b o → Up b e → Sound e 4 x 1 → Sound e 5 (gated x (gate_net o)) 1
+gate_at_sound : {e : Above} {x : Expression} (b : Above) (o : Option RegDesc) → IsGateAt o → GivenAt b o → Up b e → Sound e 4 x 1 → Sound e 5 (gated x (first_net o)) 1
 gate_at_sound b None gate given up s = absurd gate
-gate_at_sound b (Some g) gate given up s = gate_with_sound b g g.fields gate given up s
+gate_at_sound b (Some g) gate given up s = gate_with_sound b g g.fields (gate_parts g gate) given up s
 
 -- with and without a gate
 gate_by_sound : {e : Above} {x : Expression} (b : Above) (all : List LaidRow) (o : Option (List ℕ)) → GateFits all o → RowsGiven b all → Up b e → Sound e 4 x 1 → Sound e 5 (gated x (gate_of all o)) 1
 gate_by_sound b all None fits given up s = sound_deeper s (omega arith)
-gate_by_sound b all (Some name) fits given up s = gate_at_sound b (register_named all name) fits (named_given b all name given) up s
+gate_by_sound b all (Some name) fits given up s = rw (gate_net_is all name) (gate_at_sound b (register_named all name) fits (named_given b all name given) up s)
 
 -- with the gate of an item, if it has one
 pub gate_sound : {e : Above} {x : Expression} (b : Above) (all : List LaidRow) (first : ℕ) (item : Item) → ItemOk all first item → RowsGiven b all → Up b e → Sound e 4 x 1
@@ -202,7 +205,7 @@ zeros_literal : (f : FieldDesc) → FieldFits f → IsLiteral (width_of f) 0
 zeros_literal f fit = (field_some f fit, field_narrow f fit, pow_pos (width_of f))
 
 -- the part of a field, by what kind it is
-part_by : {e : Above} (b : Above) (r : RegDesc) (f : FieldDesc) (external readable : Bool) → r.hwext ≡ external → is_readable f.sw ≡ readable → FieldFits f → FieldGiven b r f → Up b e
+part_by : {e : Above} (b : Above) (r : RegDesc) (f : FieldDesc) (external readable : Bool) → r.hwext ≡ external → is_in_word f.sw ≡ readable → FieldFits f → FieldGiven b r f → Up b e
     → Sound e 1 (cond readable (net (cond external (d_net r f) (state_net r f))) (lit (width_of f) 0)) (width_of f)
 part_by b r f external false is reads fit given up = sound_lit 1 (width_of f) 0 (omega arith) (zeros_literal f fit)
 part_by b r f true true is reads fit given up = sound_net 1 (omega arith) (has_up up (given.brought (rw (is, reads) refl)))
@@ -210,7 +213,7 @@ part_by b r f false true is reads fit given up = sound_net 1 (omega arith) (has_
 
 -- for a field as it stands
 part_sound : {e : Above} (b : Above) (r : RegDesc) (f : FieldDesc) → FieldFits f → FieldGiven b r f → Up b e → Sound e 1 (shown_part r f) (width_of f)
-part_sound b r f fit given up = part_by b r f r.hwext (is_readable f.sw) refl refl fit given up
+part_sound b r f fit given up = part_by b r f r.hwext (is_in_word f.sw) refl refl fit given up
 
 -- the parts from bit `from` on, over what stands below
 word_sound : {e : Above} (b : Above) (r : RegDesc) (from : ℕ) (below : Expressions) (fs : List FieldDesc) → FieldsFit from fs → EachField FieldFits fs → EachField (FieldGiven b r) fs → Up b e

@@ -4,7 +4,7 @@ use Rattle.cg_svspec.specs.Characters.{IsName, IsWord}
 use Rattle.cg_svspec.specs.Printable.{IsWidth, IsPrintablePort, AllOf}
 use Rattle.cg_svspec.specs.Tree.{Port}
 use Rattle.cg_svspec.specs.Register.{access_ports, input_port, output_port}
-use Rattle.cg_desc.specs.BlockStep.{shows_q, shows_qe, shows_re, EachField}
+use Rattle.cg_desc.specs.BlockStep.{EachField}
 use Rattle.cg_desc.specs.declared.block.FieldDesc.{FieldDesc}
 use Rattle.cg_desc.specs.declared.block.RegDesc.{RegDesc}
 use Rattle.cg_desc.specs.declared.block.WindowDesc.{WindowDesc}
@@ -12,7 +12,7 @@ use Rattle.cg_desc.specs.declared.block.Item.{Item}
 use Rattle.cg_desc.specs.declared.block.Item.TheVariants.{Reg, Window, SkipTo, Reserved}
 use Rattle.cg_desc.specs.declared.block.LaidRow.{LaidRow}
 use Rattle.cg_regspec.specs.NetNames.{q_net, qe_net, re_net, d_net, de_net}
-use Rattle.cg_regspec.specs.RegisterModule.{width_of, port_if, takes_d, takes_de, field_ports, fields_ports, window_ports, item_ports, rows_ports}
+use Rattle.cg_regspec.specs.RegisterModule.{width_of, has_q, has_qe, has_re, port_if, has_d, has_de, field_ports, fields_ports, window_ports, item_ports, rows_ports}
 use Rattle.cg_svspec.proofs.Parts.{all_join}
 use Rattle.cg_svspec.proofs.WellNames.{literal_name}
 use Rattle.cg_regspec.proofs.WellNames.{field_name, window_name}
@@ -42,11 +42,11 @@ bit_port input n name = ((bit_width, name), omega arith)
 -- the ports of a field
 field_ports_fit : (r : RegDesc) (f : FieldDesc) → IsWord r.name → FieldFits f → AllOf PortFits (field_ports r f)
 field_ports_fit r f word fit =
-    all_join PortFits (port_if (shows_q r f) (output_port (width_of f) (q_net r f))) _ (port_if_fits (shows_q r f) _ (field_port f false (q_net r f) fit (field_name r f (codes "_q") word fit.word refl)))
-    (all_join PortFits (port_if (shows_qe r f) (output_port 1 (qe_net r f))) _ (port_if_fits (shows_qe r f) _ (bit_port false (qe_net r f) (field_name r f (codes "_qe") word fit.word refl)))
-    (all_join PortFits (port_if (shows_re r f) (output_port 1 (re_net r f))) _ (port_if_fits (shows_re r f) _ (bit_port false (re_net r f) (field_name r f (codes "_re") word fit.word refl)))
-    (all_join PortFits (port_if (takes_d r f) (input_port (width_of f) (d_net r f))) _ (port_if_fits (takes_d r f) _ (field_port f true (d_net r f) fit (field_name r f (codes "_d") word fit.word refl)))
-    (port_if_fits (takes_de r f) (input_port 1 (de_net r f)) (bit_port true (de_net r f) (field_name r f (codes "_de") word fit.word refl))))))
+    all_join PortFits (port_if (has_q r f) (output_port (width_of f) (q_net r f))) _ (port_if_fits (has_q r f) _ (field_port f false (q_net r f) fit (field_name r f (codes "_q") word fit.word refl)))
+    (all_join PortFits (port_if (has_qe r f) (output_port 1 (qe_net r f))) _ (port_if_fits (has_qe r f) _ (bit_port false (qe_net r f) (field_name r f (codes "_qe") word fit.word refl)))
+    (all_join PortFits (port_if (has_re r f) (output_port 1 (re_net r f))) _ (port_if_fits (has_re r f) _ (bit_port false (re_net r f) (field_name r f (codes "_re") word fit.word refl)))
+    (all_join PortFits (port_if (has_d r f) (input_port (width_of f) (d_net r f))) _ (port_if_fits (has_d r f) _ (field_port f true (d_net r f) fit (field_name r f (codes "_d") word fit.word refl)))
+    (port_if_fits (has_de r f) (input_port 1 (de_net r f)) (bit_port true (de_net r f) (field_name r f (codes "_de") word fit.word refl))))))
 
 -- of all fields of a register
 fields_ports_fit : (r : RegDesc) (fs : List FieldDesc) → IsWord r.name → EachField FieldFits fs → AllOf PortFits (fields_ports r fs)

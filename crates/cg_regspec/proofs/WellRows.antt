@@ -1,8 +1,8 @@
 -- What the rows of a laid interface have: widths of fields, places of rows, and their number.
-use Rattle.std.proofs.Common.{ℕ, suc, ◌+◌, ◌*◌, ◌^◌, ◌<◌, ◌≤◌, List, [], ◌∷◌, length, arith}
+use Rattle.std.proofs.Common.{ℕ, suc, ◌+◌, ◌*◌, ◌/◌, ◌^◌, ◌<◌, ◌≤◌, List, [], ◌∷◌, length, arith}
 use Rattle.cg_svspec.specs.Characters.{IsWord}
 use Rattle.cg_svspec.specs.Printable.{IsWidth}
-use Rattle.cg_desc.specs.BlockStep.{EachField, highest_bit}
+use Rattle.cg_desc.specs.BlockStep.{EachField}
 use Rattle.cg_desc.specs.Laid.{FieldsFit, HasField, GateFits, RowFits, RowsFit}
 use Rattle.cg_desc.specs.declared.block.FieldDesc.{FieldDesc}
 use Rattle.cg_desc.specs.declared.block.RegDesc.{RegDesc}
@@ -10,7 +10,7 @@ use Rattle.cg_desc.specs.declared.block.WindowDesc.{WindowDesc}
 use Rattle.cg_desc.specs.declared.block.Item.{Item}
 use Rattle.cg_desc.specs.declared.block.Item.TheVariants.{Reg, Window, SkipTo, Reserved}
 use Rattle.cg_desc.specs.declared.block.LaidRow.{LaidRow}
-use Rattle.cg_regspec.specs.RegisterModule.{width_of}
+use Rattle.cg_regspec.specs.RegisterModule.{width_of, last_byte}
 
 -- a field's name and bits, whatever stands below it
 pub record FieldFits (f : FieldDesc) : Type 0 where
@@ -36,10 +36,10 @@ field_narrow f fit = omega (arith, fit.low)
 pub field_width : (f : FieldDesc) → FieldFits f → IsWidth (width_of f)
 field_width f fit = (field_some f fit, omega (arith, field_narrow f fit))
 
--- the highest bit is one of 32
-pub highest_low : (fs : List FieldDesc) → EachField FieldFits fs → highest_bit fs < 32
-highest_low [] fit = omega arith
-highest_low (f ∷ fs) fit = omega (arith, fit.0.low, highest_low fs fit.1)
+-- the last byte that a write needs is one of four
+pub last_low : (byte : ℕ) (fs : List FieldDesc) → byte < 4 → EachField FieldFits fs → last_byte byte fs < 4
+last_low byte [] few fit = few
+last_low byte (f ∷ fs) few fit = last_low (f.msb / 8) fs (omega (arith, fit.0.low)) fit.1
 
 -- a register at its place
 pub record RegisterOk (all : List LaidRow) (first : ℕ) (r : RegDesc) : Type 0 where

@@ -5,14 +5,14 @@ use Rattle.cg_svspec.specs.Bits.{bits}
 use Rattle.cg_svspec.specs.Tree.{Port, Entry}
 use Rattle.cg_svspec.specs.Value.{Values, AllHold, InputHolds, InputFits, StateFitsIn}
 use Rattle.cg_svspec.specs.Register.{input_port, output_port}
-use Rattle.cg_desc.specs.BlockStep.{Access, is_read, is_write, shows_q, shows_qe, shows_re, EachField}
+use Rattle.cg_desc.specs.BlockStep.{Access, is_read, is_write, EachField}
 use Rattle.cg_desc.specs.declared.block.FieldDesc.{FieldDesc}
 use Rattle.cg_desc.specs.declared.block.RegDesc.{RegDesc}
 use Rattle.cg_desc.specs.declared.block.Item.{Item}
 use Rattle.cg_desc.specs.declared.block.Item.TheVariants.{Reg, Window, SkipTo, Reserved}
 use Rattle.cg_desc.specs.declared.block.LaidRow.{LaidRow}
 use Rattle.cg_regspec.specs.NetNames.{reg_we, reg_re, reg_addr, reg_wdata, reg_be, state_net, next_net, q_net, qe_net, re_net, d_net, de_net, window_rdata}
-use Rattle.cg_regspec.specs.RegisterModule.{width_of, takes_d, takes_de, port_if, field_ports, fields_ports, item_ports, rows_ports, flops_of, item_flops, rows_flops}
+use Rattle.cg_regspec.specs.RegisterModule.{width_of, has_q, has_qe, has_re, has_d, has_de, port_if, field_ports, fields_ports, item_ports, rows_ports, flops_of, item_flops, rows_flops}
 use Rattle.cg_svspec.proofs.Parts.{hold_front, hold_back, all_front, all_back}
 
 -- the nets carry the access
@@ -31,9 +31,9 @@ pub record FieldWires (v state next inputs : Values) (r : RegDesc) (f : FieldDes
   pub stored : r.hwext ≡ false → v (state_net r f) ≡ state (state_net r f)
   pub stored_next : r.hwext ≡ false → next (state_net r f) ≡ v (next_net r f)
   pub stored_width : r.hwext ≡ false → length (state (state_net r f)) ≡ width_of f
-  pub brought : takes_d r f ≡ true → v (d_net r f) ≡ inputs (d_net r f)
-  pub brought_width : takes_d r f ≡ true → length (inputs (d_net r f)) ≡ width_of f
-  pub strobe : takes_de r f ≡ true → v (de_net r f) ≡ inputs (de_net r f)
+  pub brought : has_d r f ≡ true → v (d_net r f) ≡ inputs (d_net r f)
+  pub brought_width : has_d r f ≡ true → length (inputs (d_net r f)) ≡ width_of f
+  pub strobe : has_de r f ≡ true → v (de_net r f) ≡ inputs (de_net r f)
 
 -- the nets of each field of a register
 abbrev pub RegisterWires : Values → Values → Values → Values → RegDesc → Type 0
@@ -64,10 +64,10 @@ last_ports P c d p q xs ys zs h =
 
 -- what a field's ports `d` and `de` say
 brought_ports : (P : Port → Type 0) (r : RegDesc) (f : FieldDesc) → AllOf P (field_ports r f)
-    → (takes_d r f ≡ true → P (input_port (width_of f) (d_net r f))) × (takes_de r f ≡ true → P (input_port 1 (de_net r f)))
+    → (has_d r f ≡ true → P (input_port (width_of f) (d_net r f))) × (has_de r f ≡ true → P (input_port 1 (de_net r f)))
 brought_ports P r f h =
-    last_ports P (takes_d r f) (takes_de r f) (input_port (width_of f) (d_net r f)) (input_port 1 (de_net r f)) (port_if (shows_q r f) (output_port (width_of f) (q_net r f)))
-    (port_if (shows_qe r f) (output_port 1 (qe_net r f))) (port_if (shows_re r f) (output_port 1 (re_net r f))) h
+    last_ports P (has_d r f) (has_de r f) (input_port (width_of f) (d_net r f)) (input_port 1 (de_net r f)) (port_if (has_q r f) (output_port (width_of f) (q_net r f)))
+    (port_if (has_qe r f) (output_port 1 (qe_net r f))) (port_if (has_re r f) (output_port 1 (re_net r f))) h
 
 -- the nets of a register's fields, from its flip-flops and its ports
 field_wires : (v state next inputs : Values) (r : RegDesc) (fs : List FieldDesc) → (r.hwext ≡ false → AllHold v state next (flops_of r fs))

@@ -11,4 +11,4 @@ use Rattle.cg_regspec.specs.Meaning.{RegisterMeans}
 abbrev pub RegisterModuleMeans : Type 0
 RegisterModuleMeans =
     (name : List ℕ) (face : LaidFace) → IsName name → IsLaid face → first_repeat (module_names (register_module name face)) ≡ None
-    → RegisterMeans (register_module name face) face
+    → RegisterMeans name (register_module name face) face

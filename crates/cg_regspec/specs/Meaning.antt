@@ -1,17 +1,17 @@
 -- What a register module means: its step is the step of the block's interface.
-use Rattle.std.specs.Prelude.{◌≡◌, ℕ, ◌^◌, ◌<◌, Bool, false, not, [], ◌∷◌}
+use Rattle.std.specs.Prelude.{◌≡◌, ℕ, suc, ◌-◌, ◌^◌, ◌<◌, Bool, false, not, List, [], ◌∷◌}
 use Rattle.cg_svspec.specs.Bits.{Bits, bits}
 use Rattle.cg_svspec.specs.Tree.{Module}
 use Rattle.cg_svspec.specs.Value.{Values, Valuation, HasWidths, IsReset}
 use Rattle.cg_svspec.specs.WellFormed.{WellFormed}
-use Rattle.cg_svspec.specs.Register.{IsRegister}
-use Rattle.cg_desc.specs.Target.{target_at}
+use Rattle.cg_svspec.specs.Register.{IsRegister, KeepsWidths}
+use Rattle.cg_desc.specs.Target.{Target, IsTarget}
 use Rattle.cg_desc.specs.BlockStep.{Access, is_read, is_write, Fields, Hardware, Outcome, BlockStep, EachField, EachRow, Where}
 use Rattle.cg_desc.specs.declared.block.Item.{Item}
 use Rattle.cg_desc.specs.declared.block.Item.TheVariants.{Reg}
 use Rattle.cg_desc.specs.declared.block.LaidFace.{LaidFace}
 use Rattle.cg_regspec.specs.NetNames.{reg_we, reg_re, reg_addr, reg_wdata, reg_be, reg_rdata, reg_error, state_net, q_net, qe_net, re_net, d_net, de_net, window_we, window_re, window_addr, window_wdata, window_be, window_rdata}
-use Rattle.cg_regspec.specs.RegisterModule.{width_of}
+use Rattle.cg_regspec.specs.Ports.{HasPortsOf}
 
 -- the bit of a net of width 1
 abbrev pub bit_of : Bits → Bool
@@ -39,7 +39,8 @@ hardware_in inputs = record {
   read_data = λ w. inputs (window_rdata w);
 }
 
--- what comes of a clock, as the nets and the next states have it
+-- What comes of a clock, as the nets and the next states have it. An output has the value of its net, so hardware sees just these
+-- values at the ports of those names.
 abbrev pub outcome_in : Values → Values → Outcome
 outcome_in v next = record {
   has_error = bit_of (v reg_error);
@@ -57,20 +58,24 @@ outcome_in v next = record {
 
 -- each stored field has its reset value
 abbrev pub ItemIsReset : Values → ℕ → Item → Type 0
-ItemIsReset state i (Reg r) = Where (not r.hwext) (EachField (λ f. state (state_net r f) ≡ bits (width_of f) f.resval) r.fields)
+ItemIsReset state i (Reg r) = Where (not r.hwext) (EachField (λ f. state (state_net r f) ≡ bits (suc f.msb - f.lsb) f.resval) r.fields)
 ItemIsReset state i item = Unit {0}
 
 abbrev pub FieldsAreReset : LaidFace → Values → Type 0
 FieldsAreReset face state = EachRow (ItemIsReset state) 0 face.rows
 
--- The module acts as the register block of the interface. It is a well-formed register module, its states at reset are the fields'
--- reset values, it has a valuation for all inputs and states of their widths, and each of its valuations is the block's step at what
--- the address is, for every access at every address of 32 bits.
-pub record RegisterMeans (m : Module) (face : LaidFace) : Type 0 where
+-- The module of this name acts as the register block of the interface. Its outputs are the answer to an access and what hardware
+-- sees; its inputs are the access and what hardware brings. It is a well-formed register module. Its states at reset exist, are the
+-- fields' reset values, and have their widths, and so have the outputs, and the states after each clock. It has a valuation for all inputs
+-- and states of their widths, and each of its valuations is the block's step at what the address is, for every access at every address of 32 bits.
+pub record RegisterMeans (name : List ℕ) (m : Module) (face : LaidFace) : Type 0 where
+  pub named : m.name ≡ name
+  pub ports : HasPortsOf m face
   pub well_formed : WellFormed m
   pub is_register : IsRegister m
+  pub widths : KeepsWidths m
   pub resets : (state : Values) → IsReset m state → FieldsAreReset face state
   pub has_reset : (state : Values) → FieldsAreReset face state → IsReset m state
   pub has_valuation : (inputs state : Values) → HasWidths m inputs state → (v : Values) × (next : Values) × Valuation m inputs state v next
-  pub steps : (inputs state v next : Values) (a : Access) → HasWidths m inputs state → Carries inputs a → Valuation m inputs state v next
-      → BlockStep face (target_at face a.address) a (fields_in state) (hardware_in inputs) (outcome_in v next)
+  pub steps : (inputs state v next : Values) (a : Access) (target : Target) → HasWidths m inputs state → Carries inputs a → IsTarget face a.address target
+      → Valuation m inputs state v next → BlockStep face target a (fields_in state) (hardware_in inputs) (outcome_in v next)

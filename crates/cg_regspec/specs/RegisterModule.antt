@@ -1,12 +1,13 @@
 -- The register module of a laid interface: ports and entries in their order and spelling.
-use Rattle.std.specs.Prelude.{ℕ, zero, suc, ◌+◌, ◌-◌, ◌/◌, ◌^◌, eqb, leb, Bool, false, ◌&&◌, cond, List, [], ◌∷◌, ◌++◌, map, codes, Option, Some, None}
+use Rattle.std.specs.Prelude.{ℕ, zero, suc, ◌+◌, ◌-◌, ◌/◌, ◌^◌, eqb, leb, Bool, true, false, ◌&&◌, cond, List, [], ◌∷◌, ◌++◌, map, codes, Option, Some, None}
+use Rattle.std.specs.Str.{bytes_eq, str_to_ascii_lowercase}
 use Rattle.cg_svspec.specs.Tree.{Expression, net, cut, lit, cat, inv, any, and, or, equal, pick, Expressions, none, more, Port, Parameter, Connection, Entry, wire, drive, assign, inst, Module}
 use Rattle.cg_svspec.specs.Register.{access_ports, input_port, output_port}
 use Rattle.cg_svspec.specs.Value.{flop_name}
-use Rattle.cg_desc.specs.AccessTable.{is_readable, hardware_writes}
-use Rattle.cg_desc.specs.BlockStep.{needed_bytes, is_read_only, is_write_only, register_named, shows_q, shows_qe, shows_re}
 use Rattle.cg_desc.specs.declared.block.SwAccess.{SwAccess}
 use Rattle.cg_desc.specs.declared.block.SwAccess.TheVariants.{Ro, Rc, Rw, R0w1c, Rw1s, Rw1c, Rw0c, Wo, Nothing}
+use Rattle.cg_desc.specs.declared.block.HwAccess.{HwAccess}
+use Rattle.cg_desc.specs.declared.block.HwAccess.TheVariants as hardware
 use Rattle.cg_desc.specs.declared.block.FieldDesc.{FieldDesc}
 use Rattle.cg_desc.specs.declared.block.RegDesc.{RegDesc}
 use Rattle.cg_desc.specs.declared.block.WindowDesc.{WindowDesc}
@@ -26,21 +27,70 @@ width_of f = suc f.msb - f.lsb
 abbrev pub port_if : Bool → Port → List Port
 port_if b p = cond b (p ∷ []) []
 
--- hardware brings a value for the field: for a stored one where it writes, for an external one where software reads
-abbrev pub takes_d : RegDesc → FieldDesc → Bool
-takes_d r f = cond r.hwext (is_readable f.sw) (hardware_writes f.hw)
+-- What each kind has, in a table of its own: the block's step is told by another, and the law compares the two.
 
--- hardware brings a strobe for it
-abbrev pub takes_de : RegDesc → FieldDesc → Bool
-takes_de r f = cond r.hwext false (hardware_writes f.hw)
+-- a register's word has the bits of a field of this kind
+abbrev pub is_in_word : SwAccess → Bool
+is_in_word Ro = true
+is_in_word Rc = true
+is_in_word Rw = true
+is_in_word Rw1s = true
+is_in_word Rw1c = true
+is_in_word Rw0c = true
+is_in_word R0w1c = false
+is_in_word Wo = false
+is_in_word Nothing = false
+
+-- a field of this kind takes bits of the write data
+abbrev pub takes_data : SwAccess → Bool
+takes_data Rw = true
+takes_data Wo = true
+takes_data Rw1s = true
+takes_data Rw1c = true
+takes_data Rw0c = true
+takes_data R0w1c = true
+takes_data Ro = false
+takes_data Rc = false
+takes_data Nothing = false
+
+-- a stored field of this kind has an output for hardware
+abbrev pub hardware_gets : HwAccess → Bool
+hardware_gets hardware.Hro = true
+hardware_gets hardware.Hrw = true
+hardware_gets hardware.Hwo = false
+hardware_gets hardware.Nothing = false
+
+-- a stored field of this kind has inputs from hardware
+abbrev pub hardware_sets : HwAccess → Bool
+hardware_sets hardware.Hwo = true
+hardware_sets hardware.Hrw = true
+hardware_sets hardware.Hro = false
+hardware_sets hardware.Nothing = false
+
+-- Which ports a field has. Of a stored field: `q` where hardware gets it, `d` and `de` where hardware sets it, `qe` and `re` where
+-- its register asks for them. Of a field of an external register: `q` and `qe` where it takes data, `re` and `d` where the word has it.
+abbrev pub has_q : RegDesc → FieldDesc → Bool
+has_q r f = cond r.hwext (takes_data f.sw) (hardware_gets f.hw)
+
+abbrev pub has_qe : RegDesc → FieldDesc → Bool
+has_qe r f = cond r.hwext (takes_data f.sw) r.hwqe
+
+abbrev pub has_re : RegDesc → FieldDesc → Bool
+has_re r f = cond r.hwext (is_in_word f.sw) r.hwre
+
+abbrev pub has_d : RegDesc → FieldDesc → Bool
+has_d r f = cond r.hwext (is_in_word f.sw) (hardware_sets f.hw)
+
+abbrev pub has_de : RegDesc → FieldDesc → Bool
+has_de r f = cond r.hwext false (hardware_sets f.hw)
 
 abbrev pub field_ports : RegDesc → FieldDesc → List Port
 field_ports r f =
-    port_if (shows_q r f) (output_port (width_of f) (q_net r f))
-    ++ (port_if (shows_qe r f) (output_port 1 (qe_net r f))
-    ++ (port_if (shows_re r f) (output_port 1 (re_net r f))
-    ++ (port_if (takes_d r f) (input_port (width_of f) (d_net r f))
-    ++ port_if (takes_de r f) (input_port 1 (de_net r f)))))
+    port_if (has_q r f) (output_port (width_of f) (q_net r f))
+    ++ (port_if (has_qe r f) (output_port 1 (qe_net r f))
+    ++ (port_if (has_re r f) (output_port 1 (re_net r f))
+    ++ (port_if (has_d r f) (input_port (width_of f) (d_net r f))
+    ++ port_if (has_de r f) (input_port 1 (de_net r f)))))
 
 abbrev pub fields_ports : RegDesc → List FieldDesc → List Port
 fields_ports r [] = []
@@ -97,26 +147,53 @@ hit_of row (Reg r) = equal (cut reg_addr 31 2) (lit 30 (row.first / 4))
 hit_of row (Window w) = any (cat (window_terms 23 w.items (row.first / 4)))
 hit_of row item = lit 1 0
 
--- some needed byte is not strobed
+-- The number of the byte with the highest bit of the last field, behind fields that reach into this byte. Fields stand in the
+-- order of their bits.
+abbrev pub last_byte : ℕ → List FieldDesc → ℕ
+last_byte byte [] = byte
+last_byte byte (f ∷ fs) = last_byte (f.msb / 8) fs
+
+-- some byte from 0 to k is not strobed
 abbrev pub lacks_strobe : ℕ → Expression
-lacks_strobe bytes = any (inv (slice reg_be 4 (bytes - 1) 0))
+lacks_strobe k = any (inv (slice reg_be 4 k 0))
+
+-- what refuses a write to a window: of one that is read only every write, and of one that takes single bytes none
+abbrev pub window_write_refused : SwAccess → Bool → Expression
+window_write_refused Ro byte_write = lit 1 1
+window_write_refused sw true = lit 1 0
+window_write_refused sw false = lacks_strobe 3
+
+-- what refuses a read of one: of one that is write only every read
+abbrev pub window_read_refused : SwAccess → Expression
+window_read_refused Wo = lit 1 1
+window_read_refused sw = lit 1 0
 
 abbrev pub write_refused : Item → Expression
-write_refused (Reg r) = lacks_strobe (needed_bytes r)
-write_refused (Window w) = cond (is_read_only w.sw) (lit 1 1) (cond w.byte_write (lit 1 0) (lacks_strobe 4))
+write_refused (Reg r) = lacks_strobe (last_byte 0 r.fields)
+write_refused (Window w) = window_write_refused w.sw w.byte_write
 write_refused item = lit 1 0
 
 abbrev pub read_refused : Item → Expression
-read_refused (Window w) = cond (is_write_only w.sw) (lit 1 1) (lit 1 0)
+read_refused (Window w) = window_read_refused w.sw
 read_refused item = lit 1 0
 
--- the net of a gate's field: the first one of the register of that name
-abbrev pub gate_net : Option RegDesc → Option (List ℕ)
-gate_net None = None
-gate_net (Some g) = first_state g.fields where
-  first_state : List FieldDesc → Option (List ℕ)
-  first_state [] = None
-  first_state (f ∷ fs) = Some (state_net g f)
+-- the net of a register's first field, if it has one
+abbrev pub first_state : RegDesc → List FieldDesc → Option (List ℕ)
+first_state r [] = None
+first_state r (f ∷ fs) = Some (state_net r f)
+
+-- the two names are one in nets, which are in lower case
+abbrev pub same_in_nets : List ℕ → List ℕ → Bool
+same_in_nets m n = bytes_eq (str_to_ascii_lowercase m) (str_to_ascii_lowercase n)
+
+-- the net of the gate of this name: of the first field of the first register with the name, or of `later`
+abbrev pub gate_or : Item → List ℕ → Option (List ℕ) → Option (List ℕ)
+gate_or (Reg r) name later = cond (same_in_nets r.name name) (first_state r r.fields) later
+gate_or item name later = later
+
+abbrev pub gate_net : List LaidRow → List ℕ → Option (List ℕ)
+gate_net [] name = None
+gate_net (row ∷ rows) name = gate_or row.item name (gate_net rows name)
 
 abbrev pub gated : Expression → Option (List ℕ) → Expression
 gated x None = x
@@ -125,7 +202,7 @@ gated x (Some g) = and x (net g)
 -- the gate of a register among all rows, if it has one
 abbrev pub gate_of : List LaidRow → Option (List ℕ) → Option (List ℕ)
 gate_of all None = None
-gate_of all (Some name) = gate_net (register_named all name)
+gate_of all (Some name) = gate_net all name
 
 abbrev pub item_gate : List LaidRow → Item → Option (List ℕ)
 item_gate all (Reg r) = gate_of all r.regwen
@@ -138,7 +215,7 @@ gap (suc w) below = more (lit (suc w) 0) below
 
 -- a field's part of its register's word
 abbrev pub shown_part : RegDesc → FieldDesc → Expression
-shown_part r f = cond (is_readable f.sw) (net (cond r.hwext (d_net r f) (state_net r f))) (lit (width_of f) 0)
+shown_part r f = cond (is_in_word f.sw) (net (cond r.hwext (d_net r f) (state_net r f))) (lit (width_of f) 0)
 
 -- The parts of a register's word from bit 31 down: `from` is the first bit that is left, and `below` what stands under it.
 abbrev pub word_parts : RegDesc → ℕ → Expressions → List FieldDesc → Expressions
@@ -218,7 +295,7 @@ next_of Rw0c i data_in h w = and h (pick (net (we i)) data_in (one_bits w))
 next_of Rc i data_in h w = pick (net (re i)) (zero_bits w) h
 
 abbrev pub hold_of : RegDesc → FieldDesc → Expression
-hold_of r f = cond (hardware_writes f.hw) (pick (net (de_net r f)) (net (d_net r f)) (net (state_net r f))) (net (state_net r f))
+hold_of r f = cond (hardware_sets f.hw) (pick (net (de_net r f)) (net (d_net r f)) (net (state_net r f))) (net (state_net r f))
 
 -- an entry where the test holds
 abbrev pub entry_if : Bool → Entry → List Entry
@@ -227,9 +304,9 @@ entry_if b e = cond b (e ∷ []) []
 -- the assigns of the field's outputs
 abbrev pub field_views : ℕ → RegDesc → FieldDesc → List Entry
 field_views i r f =
-    entry_if (shows_q r f) (assign (q_net r f) (cond r.hwext (written_bits f) (net (state_net r f))))
-    ++ (entry_if (shows_qe r f) (assign (qe_net r f) (net (we i)))
-    ++ entry_if (shows_re r f) (assign (re_net r f) (net (re i))))
+    entry_if (has_q r f) (assign (q_net r f) (cond r.hwext (written_bits f) (net (state_net r f))))
+    ++ (entry_if (has_qe r f) (assign (qe_net r f) (net (we i)))
+    ++ entry_if (has_re r f) (assign (re_net r f) (net (re i))))
 
 abbrev pub field_updates : ℕ → RegDesc → FieldDesc → List Entry
 field_updates i r f =

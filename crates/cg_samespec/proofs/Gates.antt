@@ -2,7 +2,7 @@
 use Rattle.std.proofs.Common.{ℕ, ◌≡◌, Bool, true, false, List, [], ◌∷◌, map, if◌then◌else◌, Option, Some, None, refl, sym, ap, subst, ◌∙◌}
 use Rattle.std.specs.List.{Contains, zip}
 use Rattle.std.specs.Option.{option_map}
-use Rattle.cg_desc.specs.BlockStep.{has_name}
+use Rattle.cg_desc.specs.Gates.{has_name}
 use Rattle.cg_desc.specs.declared.block.FieldDesc.{FieldDesc}
 use Rattle.cg_desc.specs.declared.block.RegDesc.{RegDesc}
 use Rattle.cg_desc.specs.declared.block.Item.{Item}
@@ -12,7 +12,8 @@ use Rattle.cg_desc.specs.declared.block.FaceItems.{FaceItems}
 use Rattle.cg_desc.specs.declared.block.BlockDesc.{BlockDesc}
 use Rattle.cg_desc.specs.Items.{items_of_block}
 use Rattle.cg_finding.specs.Finding.{Finding}
-use Rattle.cg_layout.specs.Violations.{BreaksIn, HasNoRow, Violates, is_gate, is_row, register_among}
+use Rattle.cg_desc.specs.Gates.{is_gate, register_among}
+use Rattle.cg_layout.specs.Violations.{BreaksIn, HasNoRow, Violates, is_row}
 use Rattle.cg_done.specs.Completed.{AreSame}
 use Rattle.cg_done.specs.Places.{block_unplaced, face_unplaced, register_unplaced}
 use Rattle.cg_samespec.proofs.Items.{block_items_are, item_unplaced, items_unplaced, with_fields}

@@ -4,7 +4,6 @@ use Rattle.std.specs.Prelude.{max}
 use Rattle.std.specs.Option.{option_map}
 use Rattle.cg_svspec.specs.Tree.{Expression, Expressions, Entry, and, cat, drive, inv, more, net, none, pick, wire}
 use Rattle.cg_svspec.specs.Register.{access_ports}
-use Rattle.cg_desc.specs.BlockStep.{has_name, highest_bit, register_named}
 use Rattle.cg_desc.specs.declared.block.FieldDesc.{FieldDesc}
 use Rattle.cg_desc.specs.declared.block.RegDesc.{RegDesc}
 use Rattle.cg_desc.specs.declared.block.Item.{Item}
@@ -12,7 +11,7 @@ use Rattle.cg_desc.specs.declared.block.Item.TheVariants.{Reg, Window, SkipTo, R
 use Rattle.cg_desc.specs.declared.block.LaidRow.{LaidRow}
 use Rattle.cg_desc.specs.declared.block.LaidFace.{LaidFace}
 use Rattle.cg_regspec.specs.NetNames.{base, hit, rbad, rd, re, reg_re, reg_we, state_net, wbad, we, window_base}
-use Rattle.cg_regspec.specs.RegisterModule.{all_ones, answer_entries, field_entries, field_ports, fields_entries, fields_ports, flop_of, flops_of, gap, gate_net, gate_of, gated, highest_first, hit_of, item_fields, item_flops, item_gate, item_ports, item_states, item_windows, item_word_text, lacks_strobe, last_rd, read_refused, register_entries, register_module, row_entries, rows_entries, rows_fields, rows_flops, rows_ports, rows_states, rows_windows, shown_part, states_of, width_of, word_parts, write_refused}
+use Rattle.cg_regspec.specs.RegisterModule.{all_ones, answer_entries, field_entries, field_ports, fields_entries, fields_ports, flop_of, flops_of, first_state, gap, gate_net, gate_of, gate_or, gated, highest_first, hit_of, item_fields, item_flops, item_gate, item_ports, item_states, item_windows, item_word_text, lacks_strobe, last_byte, last_rd, read_refused, register_entries, register_module, row_entries, rows_entries, rows_fields, rows_flops, rows_ports, rows_states, rows_windows, same_in_nets, shown_part, states_of, width_of, word_parts, write_refused}
 use Rattle.cg_done.specs.Places.{field_unplaced, register_unplaced}
 use Rattle.cg_samespec.proofs.Items.{item_unplaced, with_fields}
 use Rattle.cg_samespec.proofs.Offsets.{laid_unplaced, row_unplaced}
@@ -58,12 +57,12 @@ hit_is row (Window w) = refl
 hit_is row (SkipTo to at) = refl
 hit_is row (Reserved words at) = refl
 
-highest_bit_is : (fs : List FieldDesc) → highest_bit (map field_unplaced fs) ≡ highest_bit fs
-highest_bit_is [] = refl
-highest_bit_is (f ∷ fs) = ap (max f.msb) (highest_bit_is fs)
+last_byte_is : (byte : ℕ) (fs : List FieldDesc) → last_byte byte (map field_unplaced fs) ≡ last_byte byte fs
+last_byte_is byte [] = refl
+last_byte_is byte (f ∷ fs) = last_byte_is (f.msb / 8) fs
 
 write_refused_is : (item : Item) → write_refused (item_unplaced item) ≡ write_refused item
-write_refused_is (Reg r) = ap (λ bit. lacks_strobe (suc (bit / 8))) (highest_bit_is r.fields)
+write_refused_is (Reg r) = ap lacks_strobe (last_byte_is 0 r.fields)
 write_refused_is (Window w) = refl
 write_refused_is (SkipTo to at) = refl
 write_refused_is (Reserved words at) = refl
@@ -74,38 +73,26 @@ read_refused_is (Window w) = refl
 read_refused_is (SkipTo to at) = refl
 read_refused_is (Reserved words at) = refl
 
-chosen : (b : Bool) (r : RegDesc) (found : Option RegDesc)
-    → cond b (Some (register_unplaced r)) (option_map register_unplaced found) ≡ option_map register_unplaced (cond b (Some r) found)
-chosen true r found = refl
-chosen false r found = refl
-
--- the register that is found behind a row of this item
-named_behind : (item : Item) (first words : ℕ) (rows : List LaidRow) (name : List ℕ)
-    → register_named (map row_unplaced rows) name ≡ option_map register_unplaced (register_named rows name)
-    → register_named (record { first = first; words = words; item = item_unplaced item } ∷ map row_unplaced rows) name
-    ≡ option_map register_unplaced (register_named (record { first = first; words = words; item = item } ∷ rows) name)
-named_behind (Reg r) first words rows name later =
-    (λ k. cond (has_name r name) (Some (register_unplaced r)) (later k)) ∙ chosen (has_name r name) r (register_named rows name)
-named_behind (Window w) first words rows name later = later
-named_behind (SkipTo to at) first words rows name later = later
-named_behind (Reserved count at) first words rows name later = later
-
-register_named_is : (rows : List LaidRow) (name : List ℕ) → register_named (map row_unplaced rows) name ≡ option_map register_unplaced (register_named rows name)
-register_named_is [] name = refl
-register_named_is (row ∷ rows) name = named_behind row.item row.first row.words rows name (register_named_is rows name)
-
-net_by_fields : (r : RegDesc) (fs : List FieldDesc) → gate_net (Some (register_unplaced (with_fields r fs))) ≡ gate_net (Some (with_fields r fs))
+-- the net of a register's first field
+first_state_is : (r : RegDesc) (fs : List FieldDesc) → first_state (register_unplaced r) (map field_unplaced fs) ≡ first_state r fs
 unfolding base
-net_by_fields r [] = refl
-net_by_fields r (f ∷ fs) = refl
+first_state_is r [] = refl
+first_state_is r (f ∷ fs) = refl
 
-gate_net_is : (found : Option RegDesc) → gate_net (option_map register_unplaced found) ≡ gate_net found
-gate_net_is None = refl
-gate_net_is (Some r) = net_by_fields r r.fields
+-- the net of the gate of a name, behind this item
+gate_or_is : (item : Item) (name : List ℕ) (later : Option (List ℕ)) → gate_or (item_unplaced item) name later ≡ gate_or item name later
+gate_or_is (Reg r) name later = ap (λ net. cond (same_in_nets r.name name) net later) (first_state_is r r.fields)
+gate_or_is (Window w) name later = refl
+gate_or_is (SkipTo to at) name later = refl
+gate_or_is (Reserved words at) name later = refl
+
+gate_net_is : (all : List LaidRow) (name : List ℕ) → gate_net (map row_unplaced all) name ≡ gate_net all name
+gate_net_is [] name = refl
+gate_net_is (row ∷ rows) name = ap (gate_or (item_unplaced row.item) name) (gate_net_is rows name) ∙ gate_or_is row.item name (gate_net rows name)
 
 gate_of_is : (all : List LaidRow) (name : Option (List ℕ)) → gate_of (map row_unplaced all) name ≡ gate_of all name
 gate_of_is all None = refl
-gate_of_is all (Some name) = ap gate_net (register_named_is all name) ∙ gate_net_is (register_named all name)
+gate_of_is all (Some name) = gate_net_is all name
 
 item_gate_is : (all : List LaidRow) (item : Item) → item_gate (map row_unplaced all) (item_unplaced item) ≡ item_gate all item
 item_gate_is all (Reg r) = gate_of_is all r.regwen

@@ -18,8 +18,8 @@ pub made_printable : RegisterModuleMeans → (name : List ℕ) (face : LaidFace)
 made_printable law name face m is_name laid made apart = subst IsPrintable (sym made) (law name face is_name laid apart).well_formed.printable
 
 pub made_means : RegisterModuleMeans → (name : List ℕ) (face : LaidFace) (m : Module) → IsName name → IsLaid face
-    → m ≡ register_module name face → first_repeat (module_names (register_module name face)) ≡ None → RegisterMeans m face
-made_means law name face m is_name laid made apart = subst (λ (n : Module). RegisterMeans n face) (sym made) (law name face is_name laid apart)
+    → m ≡ register_module name face → first_repeat (module_names (register_module name face)) ≡ None → RegisterMeans name m face
+made_means law name face m is_name laid made apart = subst (λ (n : Module). RegisterMeans name n face) (sym made) (law name face is_name laid apart)
 
 -- good names of a block and of its interface make a good one of the module
 pub interface_module_is_name : (block : List ℕ) (interface : Option (List ℕ)) → IsWord block → IsNameIfAny interface → IsName (register_module_name block interface)

@@ -1,9 +1,7 @@
-//! What a field can do, and which views of it hardware has.
+//! Which ports a field has, and what its kinds have to do with them.
 
 ghost use Rattle.std.specs.Prelude.{◌≡◌};
-ghost use Rattle.cg_desc.specs.AccessTable.{is_readable, is_writable, hardware_writes, hardware_sees};
-ghost use Rattle.cg_desc.specs.BlockStep.{shows_q, shows_qe, shows_re};
-ghost use Rattle.cg_regspec.specs.RegisterModule.{width_of, takes_d, takes_de};
+ghost use Rattle.cg_regspec.specs.RegisterModule.{width_of, is_in_word, takes_data, hardware_gets, hardware_sets, has_q, has_qe, has_re, has_d, has_de};
 
 use cg_desc::{FieldDesc, HwAccess, RegDesc, SwAccess};
 
@@ -14,9 +12,9 @@ pub fn width_of(field: &FieldDesc) -> u32
     (u32::from(field.msb) + 1).saturating_sub(u32::from(field.lsb))
 }
 
-/// Whether software reads the field.
-pub fn is_readable(kind: SwAccess) -> bool
-    ensures { result ≡ is_readable kind }
+/// Whether a register's word has the bits of a field of this kind.
+pub fn is_in_word(kind: SwAccess) -> bool
+    ensures { result ≡ is_in_word kind }
 {
     match kind {
         SwAccess::Ro | SwAccess::Rc | SwAccess::Rw => true,
@@ -25,9 +23,9 @@ pub fn is_readable(kind: SwAccess) -> bool
     }
 }
 
-/// Whether software writes the field.
-fn is_writable(kind: SwAccess) -> bool
-    ensures { result ≡ is_writable kind }
+/// Whether a field of this kind takes bits of the write data.
+fn takes_data(kind: SwAccess) -> bool
+    ensures { result ≡ takes_data kind }
 {
     match kind {
         SwAccess::Rw | SwAccess::R0w1c | SwAccess::Rw1s => true,
@@ -36,9 +34,9 @@ fn is_writable(kind: SwAccess) -> bool
     }
 }
 
-/// Whether hardware writes a stored field.
-pub fn hardware_writes(kind: HwAccess) -> bool
-    ensures { result ≡ hardware_writes kind }
+/// Whether a stored field of this kind has inputs from hardware.
+pub fn hardware_sets(kind: HwAccess) -> bool
+    ensures { result ≡ hardware_sets kind }
 {
     match kind {
         HwAccess::Hrw | HwAccess::Hwo => true,
@@ -46,9 +44,9 @@ pub fn hardware_writes(kind: HwAccess) -> bool
     }
 }
 
-/// Whether hardware sees a stored field.
-fn hardware_sees(kind: HwAccess) -> bool
-    ensures { result ≡ hardware_sees kind }
+/// Whether a stored field of this kind has an output for hardware.
+fn hardware_gets(kind: HwAccess) -> bool
+    ensures { result ≡ hardware_gets kind }
 {
     match kind {
         HwAccess::Hro | HwAccess::Hrw => true,
@@ -56,53 +54,53 @@ fn hardware_sees(kind: HwAccess) -> bool
     }
 }
 
-/// Whether hardware sees a value of the field.
-pub fn shows_q(register: &RegDesc, field: &FieldDesc) -> bool
-    ensures { result ≡ shows_q register.now field.now }
+/// Whether the field has the output `q`, its value.
+pub fn has_q(register: &RegDesc, field: &FieldDesc) -> bool
+    ensures { result ≡ has_q register.now field.now }
 {
     if register.hwext {
-        is_writable(field.sw)
+        takes_data(field.sw)
     } else {
-        hardware_sees(field.hw)
+        hardware_gets(field.hw)
     }
 }
 
-/// Whether hardware sees that software writes the field.
-pub fn shows_qe(register: &RegDesc, field: &FieldDesc) -> bool
-    ensures { result ≡ shows_qe register.now field.now }
+/// Whether the field has the output `qe`, the strobe of a write.
+pub fn has_qe(register: &RegDesc, field: &FieldDesc) -> bool
+    ensures { result ≡ has_qe register.now field.now }
 {
     if register.hwext {
-        is_writable(field.sw)
+        takes_data(field.sw)
     } else {
         register.hwqe
     }
 }
 
-/// Whether hardware sees that software reads the field.
-pub fn shows_re(register: &RegDesc, field: &FieldDesc) -> bool
-    ensures { result ≡ shows_re register.now field.now }
+/// Whether the field has the output `re`, the strobe of a read.
+pub fn has_re(register: &RegDesc, field: &FieldDesc) -> bool
+    ensures { result ≡ has_re register.now field.now }
 {
     if register.hwext {
-        is_readable(field.sw)
+        is_in_word(field.sw)
     } else {
         register.hwre
     }
 }
 
-/// Whether hardware brings a value for the field.
-pub fn takes_d(register: &RegDesc, field: &FieldDesc) -> bool
-    ensures { result ≡ takes_d register.now field.now }
+/// Whether the field has the input `d`, hardware's value.
+pub fn has_d(register: &RegDesc, field: &FieldDesc) -> bool
+    ensures { result ≡ has_d register.now field.now }
 {
     if register.hwext {
-        is_readable(field.sw)
+        is_in_word(field.sw)
     } else {
-        hardware_writes(field.hw)
+        hardware_sets(field.hw)
     }
 }
 
-/// Whether hardware brings a strobe for the field.
-pub fn takes_de(register: &RegDesc, field: &FieldDesc) -> bool
-    ensures { result ≡ takes_de register.now field.now }
+/// Whether the field has the input `de`, the strobe of hardware's value.
+pub fn has_de(register: &RegDesc, field: &FieldDesc) -> bool
+    ensures { result ≡ has_de register.now field.now }
 {
-    !register.hwext && hardware_writes(field.hw)
+    !register.hwext && hardware_sets(field.hw)
 }

@@ -7,7 +7,7 @@ ghost use Rattle.cg_regspec.specs.NetNames.{we, re, state_net};
 ghost use Rattle.cg_regspec.specs.RegisterModule.{width_of, written_bits, zero_bits, one_bits, next_of, hold_of, entry_if, field_views, field_updates, field_entries, fields_entries, item_fields, rows_fields};
 ghost use Rattle.cg_svreg.specs.Narrow.{FieldsAreNarrow, ItemIsNarrow, RowsAreNarrow};
 
-use crate::access::{hardware_writes, shows_q, shows_qe, shows_re, width_of};
+use crate::access::{hardware_sets, has_q, has_qe, has_re, width_of};
 use crate::nets::{self, field_net, slice};
 use cg_base::{List, Memory, mask};
 use cg_desc::{FieldDesc, Item, LaidRow, RegDesc, SwAccess};
@@ -114,7 +114,7 @@ fn hold_of(alloc: Global, register: &RegDesc, field: &FieldDesc) -> Result<Expr,
     ensures { IfOk result (λ x. expression_of x ≡ hold_of register.now field.now) }
 {
     let state = nets::field(alloc, register, field, "_s")?;
-    if !hardware_writes(field.hw) {
+    if !hardware_sets(field.hw) {
         return Ok(state);
     }
     let strobe = nets::field(alloc, register, field, "_de")?;
@@ -186,19 +186,13 @@ fn add_views(
 {
     let q = field_net(alloc, register, field, "_q")?;
     let value = seen_value(alloc, register, field)?;
-    add_assign_if(alloc, entries, shows_q(register, field), q.as_str(), value)?;
+    add_assign_if(alloc, entries, has_q(register, field), q.as_str(), value)?;
     let qe = field_net(alloc, register, field, "_qe")?;
     let write = nets::row(alloc, "we_", number)?;
-    add_assign_if(
-        alloc,
-        entries,
-        shows_qe(register, field),
-        qe.as_str(),
-        write,
-    )?;
+    add_assign_if(alloc, entries, has_qe(register, field), qe.as_str(), write)?;
     let re = field_net(alloc, register, field, "_re")?;
     let read = nets::row(alloc, "re_", number)?;
-    add_assign_if(alloc, entries, shows_re(register, field), re.as_str(), read)?;
+    add_assign_if(alloc, entries, has_re(register, field), re.as_str(), read)?;
     Ok(())
 }
 

@@ -2,9 +2,8 @@
 
 ghost use Rattle.std.specs.Prelude.{◌≡◌, IfOk};
 ghost use Rattle.std.specs.Option.{option_copied};
-ghost use Rattle.cg_desc.specs.BlockStep.{register_named};
 ghost use Rattle.cg_sv.specs.Views.{expression_of};
-ghost use Rattle.cg_regspec.specs.RegisterModule.{gate_net, gate_of, item_gate, gated};
+ghost use Rattle.cg_regspec.specs.RegisterModule.{first_state, gate_net, gate_of, item_gate, gated};
 ghost use Rattle.cg_svreg.specs.Named.{named};
 
 use crate::nets::field_net;
@@ -26,29 +25,30 @@ fn named<'a>(item: &'a Item, name: &str) -> Option<&'a RegDesc>
     }
 }
 
-/// The register of this name, which is compared without regard to case.
-fn register_named<'a>(rows: &'a [LaidRow], name: &str) -> Option<&'a RegDesc>
-    ensures { option_copied result ≡ register_named rows.now name.now }
+/// The net of a register's first field.
+fn first_state(alloc: Global, register: &RegDesc) -> Result<Option<Text>, Memory>
+    ensures { IfOk result (λ net. net ≡ first_state register.now register.now.fields) }
 {
-    for row in rows {
-        if let Some(register) = named(&row.item, name) {
-            return Some(register);
-        }
-    }
-    None
-}
-
-/// The net of a gate: the value of its register's first field.
-fn gate_net(alloc: Global, gate: &RegDesc) -> Result<Option<Text>, Memory>
-    ensures { IfOk result (λ net. net ≡ gate_net (Some gate.now)) }
-{
-    match gate.fields.as_slice() {
+    match register.fields.as_slice() {
         [] => Ok(None),
         [field, ..] => {
-            let net = field_net(alloc, gate, field, "_s")?;
+            let net = field_net(alloc, register, field, "_s")?;
             Ok(Some(net))
         }
     }
+}
+
+/// The net of the gate of this name, which is compared without regard to case.
+fn gate_net(alloc: Global, rows: &[LaidRow], name: &str) -> Result<Option<Text>, Memory>
+    ensures { IfOk result (λ net. net ≡ gate_net rows.now name.now) }
+{
+    for row in rows {
+        if let Some(register) = named(&row.item, name) {
+            let net = first_state(alloc, register)?;
+            return Ok(net);
+        }
+    }
+    Ok(None)
 }
 
 /// The net of a register's gate among all rows, if it has one.
@@ -58,13 +58,8 @@ fn gate_of(alloc: Global, all: &[LaidRow], register: &RegDesc) -> Result<Option<
     let Some(name) = &register.regwen else {
         return Ok(None);
     };
-    match register_named(all, name.as_str()) {
-        None => Ok(None),
-        Some(gate) => {
-            let net = gate_net(alloc, gate)?;
-            Ok(net)
-        }
-    }
+    let net = gate_net(alloc, all, name.as_str())?;
+    Ok(net)
 }
 
 /// The net of an item's gate among all rows, if it has one.

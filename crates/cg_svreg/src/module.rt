@@ -75,7 +75,7 @@ fn any_module(alloc: Global, name: &str, face: &LaidFace) -> Result<Module, Memo
 pub fn face_module(alloc: Global, name: &str, face: &LaidFace) -> Result<Module, SvRegFault>
     requires laid { IsLaid face.now }
     ensures made { IfOk result (λ m. module_of m ≡ register_module name.now face.now) }
-    ensures means { IfOk result (λ m. IsName name.now → RegisterMeans (module_of m) face.now) }
+    ensures means { IfOk result (λ m. IsName name.now → RegisterMeans name.now (module_of m) face.now) }
     ensures apart { OnOk result (first_repeat (module_names (register_module name.now face.now)) ≡ None) }
     ensures clash { (n : List ℕ) → result ≡ Err (SvRegFault.Clash n) → first_repeat (module_names (register_module name.now face.now)) ≡ Some n }
 {
@@ -105,7 +105,8 @@ pub fn reg_module(alloc: Global, block: &LaidBlock, face: u32) -> Result<Module,
     requires within { face < length block.now.faces }
     requires laid { IsLaid (interface block.now face) }
     ensures made { IfOk result (λ m. module_of m ≡ interface_module block.now face) }
-    ensures means { IfOk result (λ m. IsWord block.now.desc.name → IsNameIfAny (interface block.now face).name → RegisterMeans (module_of m) (interface block.now face)) }
+    ensures means { IfOk result (λ m. IsWord block.now.desc.name → IsNameIfAny (interface block.now face).name
+        → RegisterMeans (register_module_name block.now.desc.name (interface block.now face).name) (module_of m) (interface block.now face)) }
     ensures apart { OnOk result (first_repeat (module_names (interface_module block.now face)) ≡ None) }
     ensures clash { (n : List ℕ) → result ≡ Err (SvRegFault.Clash n) → first_repeat (module_names (interface_module block.now face)) ≡ Some n }
 {

@@ -5,7 +5,7 @@ ghost use Rattle.cg_svspec.specs.Register.{input_port, output_port, access_ports
 ghost use Rattle.cg_sv.specs.Views.{port_of};
 ghost use Rattle.cg_regspec.specs.RegisterModule.{width_of, port_if, field_ports, fields_ports, window_ports, item_ports, rows_ports};
 
-use crate::access::{shows_q, shows_qe, shows_re, takes_d, takes_de, width_of};
+use crate::access::{has_d, has_de, has_q, has_qe, has_re, width_of};
 use crate::nets::{field_net, window_net};
 use cg_base::{List, Memory};
 use cg_desc::{FieldDesc, Item, LaidRow, RegDesc, WindowDesc};
@@ -71,15 +71,15 @@ fn add_field_ports(
 {
     let width = width_of(field);
     let q = field_net(alloc, register, field, "_q")?;
-    add_output_if(alloc, ports, shows_q(register, field), width, q.as_str())?;
+    add_output_if(alloc, ports, has_q(register, field), width, q.as_str())?;
     let qe = field_net(alloc, register, field, "_qe")?;
-    add_output_if(alloc, ports, shows_qe(register, field), 1, qe.as_str())?;
+    add_output_if(alloc, ports, has_qe(register, field), 1, qe.as_str())?;
     let re = field_net(alloc, register, field, "_re")?;
-    add_output_if(alloc, ports, shows_re(register, field), 1, re.as_str())?;
+    add_output_if(alloc, ports, has_re(register, field), 1, re.as_str())?;
     let d = field_net(alloc, register, field, "_d")?;
-    add_input_if(alloc, ports, takes_d(register, field), width, d.as_str())?;
+    add_input_if(alloc, ports, has_d(register, field), width, d.as_str())?;
     let de = field_net(alloc, register, field, "_de")?;
-    add_input_if(alloc, ports, takes_de(register, field), 1, de.as_str())?;
+    add_input_if(alloc, ports, has_de(register, field), 1, de.as_str())?;
     Ok(())
 }
 

@@ -1,68 +1,55 @@
 //! Which accesses a row refuses.
 
 ghost use Rattle.std.specs.Prelude.{◌≡◌, IfOk};
-ghost use Rattle.cg_desc.specs.BlockStep.{highest_bit, needed_bytes, is_read_only, is_write_only};
 ghost use Rattle.cg_sv.specs.Views.{expression_of};
-ghost use Rattle.cg_regspec.specs.RegisterModule.{lacks_strobe, write_refused, read_refused};
+ghost use Rattle.cg_regspec.specs.RegisterModule.{last_byte, lacks_strobe, window_write_refused, window_read_refused, write_refused, read_refused};
 
 use crate::nets::slice;
 use cg_base::Memory;
-use cg_desc::{FieldDesc, Item, RegDesc, SwAccess, WindowDesc};
+use cg_desc::{FieldDesc, Item, SwAccess};
 use cg_sv::{Expr, make};
 use std::alloc::Global;
 
-/// The highest bit of the fields, 0 where there is none.
-fn highest_bit(fields: &[FieldDesc]) -> u8
-    ensures { result ≡ highest_bit fields.now }
+/// The number of the byte with the highest bit of the last field, 0 where there is none.
+fn last_byte(fields: &[FieldDesc]) -> u8
+    ensures { result ≡ last_byte 0 fields.now }
 {
-    let mut highest = 0;
+    let mut last = 0;
     for field in fields {
-        highest = field.msb.max(highest);
+        last = field.msb / 8;
     }
-    highest
+    last
 }
 
-/// How many bytes a write to the register must strobe.
-fn needed_bytes(register: &RegDesc) -> u8
-    ensures { result ≡ needed_bytes register.now }
+/// Whether one of the bytes from 0 to this one is not strobed.
+fn lacks_strobe(alloc: Global, byte: u8) -> Result<Expr, Memory>
+    ensures { IfOk result (λ x. expression_of x ≡ lacks_strobe byte) }
 {
-    highest_bit(register.fields.as_slice()) / 8 + 1
-}
-
-/// Whether one of the lowest `bytes` bytes is not strobed.
-fn lacks_strobe(alloc: Global, bytes: u8) -> Result<Expr, Memory>
-    ensures { IfOk result (λ x. expression_of x ≡ lacks_strobe bytes) }
-{
-    let strobes = slice(alloc, "reg_be", 4, bytes.saturating_sub(1), 0)?;
+    let strobes = slice(alloc, "reg_be", 4, byte, 0)?;
     let turned = make::not(alloc, strobes)?;
     let lacks = make::any(alloc, turned)?;
     Ok(lacks)
 }
 
-fn is_read_only(kind: SwAccess) -> bool
-    ensures { result ≡ is_read_only kind }
+/// What refuses a write to a window of this kind, which takes single bytes or not.
+fn window_write_refused(alloc: Global, kind: SwAccess, byte_write: bool) -> Result<Expr, Memory>
+    ensures { IfOk result (λ x. expression_of x ≡ window_write_refused kind byte_write) }
 {
-    matches!(kind, SwAccess::Ro)
-}
-
-fn is_write_only(kind: SwAccess) -> bool
-    ensures { result ≡ is_write_only kind }
-{
-    matches!(kind, SwAccess::Wo)
-}
-
-/// What refuses a write to a window.
-fn window_write_refused(alloc: Global, window: &WindowDesc) -> Result<Expr, Memory>
-    ensures { IfOk result (λ x. expression_of x ≡ write_refused (Item.Window window.now)) }
-{
-    if is_read_only(window.sw) {
+    if matches!(kind, SwAccess::Ro) {
         return Ok(make::lit(1, 1));
     }
-    if window.byte_write {
+    if byte_write {
         return Ok(make::lit(1, 0));
     }
-    let lacks = lacks_strobe(alloc, 4)?;
+    let lacks = lacks_strobe(alloc, 3)?;
     Ok(lacks)
+}
+
+/// What refuses a read of a window of this kind.
+fn window_read_refused(kind: SwAccess) -> Expr
+    ensures { expression_of result ≡ window_read_refused kind }
+{
+    make::lit(1, u64::from(matches!(kind, SwAccess::Wo)))
 }
 
 /// What refuses a write to the item.
@@ -71,11 +58,11 @@ pub fn write_refused(alloc: Global, item: &Item) -> Result<Expr, Memory>
 {
     match item {
         Item::Reg(register) => {
-            let lacks = lacks_strobe(alloc, needed_bytes(register))?;
+            let lacks = lacks_strobe(alloc, last_byte(register.fields.as_slice()))?;
             Ok(lacks)
         }
         Item::Window(window) => {
-            let refused = window_write_refused(alloc, window)?;
+            let refused = window_write_refused(alloc, window.sw, window.byte_write)?;
             Ok(refused)
         }
         Item::SkipTo { .. } | Item::Reserved { .. } => Ok(make::lit(1, 0)),
@@ -87,7 +74,7 @@ pub fn read_refused(item: &Item) -> Expr
     ensures { expression_of result ≡ read_refused item.now }
 {
     match item {
-        Item::Window(window) => make::lit(1, u64::from(is_write_only(window.sw))),
+        Item::Window(window) => window_read_refused(window.sw),
         Item::Reg(_) | Item::SkipTo { .. } | Item::Reserved { .. } => make::lit(1, 0),
     }
 }

@@ -5,7 +5,7 @@ ghost use Rattle.cg_svspec.specs.Tree.{cat, none};
 ghost use Rattle.cg_sv.specs.Views.{expression_of};
 ghost use Rattle.cg_regspec.specs.RegisterModule.{all_ones, shown_part, word_parts, item_word_text};
 
-use crate::access::{is_readable, width_of};
+use crate::access::{is_in_word, width_of};
 use crate::nets::{self, window_net};
 use crate::parts::{concatenation, no_parts, put_above, put_gap};
 use cg_base::Memory;
@@ -20,11 +20,11 @@ pub fn all_ones() -> Expr
     make::lit(32, 0xffff_ffff)
 }
 
-/// A field's part of its register's word: what software reads, or zeros.
+/// A field's part of its register's word: what a read shows of it, or zeros.
 fn shown_part(alloc: Global, register: &RegDesc, field: &FieldDesc) -> Result<Expr, Memory>
     ensures { IfOk result (λ x. expression_of x ≡ shown_part register.now field.now) }
 {
-    if !is_readable(field.sw) {
+    if !is_in_word(field.sw) {
         return Ok(make::lit(width_of(field), 0));
     }
     if register.hwext {

@@ -148,7 +148,7 @@ first_is_driven inputs m c q later part here value =
     (subst (λ x. Among q (driven_nets x ++ later)) (sym value) (inl refl))
 
 -- the net at `q_o` of a flip-flop is driven by it
-q_is_driven : (inputs : List (List ℕ)) (m : List ℕ) (cs : List Connection) (q : List ℕ) → bytes_eq m flop_name ≡ true → connection_at (codes "q_o") cs ≡ Some (net q)
+pub q_is_driven : (inputs : List (List ℕ)) (m : List ℕ) (cs : List Connection) (q : List ℕ) → bytes_eq m flop_name ≡ true → connection_at (codes "q_o") cs ≡ Some (net q)
     → Among q (driven_by_connections inputs m cs)
 q_is_driven inputs m [] q part is = cc
 q_is_driven inputs m (c ∷ cs) q part is = by (q_is_driven inputs m cs q part) (bytes_eq c.name (codes "q_o")) refl is where

@@ -1,3 +1,7 @@
+pub mod Covered
+pub mod Widths
+pub mod KeepsWidths
+pub mod FirstRepeat
 pub mod Runs
 pub mod Numerals
 pub mod Longest

@@ -1,5 +1,5 @@
 -- The names that a module declares, and the first that is declared twice.
-use Rattle.std.specs.Prelude.{◌≡◌, ℕ, ◌⊎◌, Bool, false, ◌||◌, List, [], ◌∷◌, ◌++◌, Option, Some, None, if◌then◌else◌}
+use Rattle.std.specs.Prelude.{◌≡◌, ℕ, ◌<◌, ◌⊎◌, ◌↔◌, slice_get, Bool, false, ◌||◌, List, [], ◌∷◌, ◌++◌, Option, Some, None, if◌then◌else◌}
 use Rattle.std.specs.Str.{bytes_eq}
 use Rattle.cg_svspec.specs.Tree.{Port, Entry, wire, drive, assign, inst, Module}
 
@@ -42,3 +42,26 @@ Among x (y ∷ ys) = (x ≡ y) ⊎ Among x ys
 abbrev pub Differ : List (List ℕ) → Type 0
 Differ [] = Unit {0}
 Differ (n ∷ ns) = (Among n ns → ⊥) × Differ ns
+
+-- the name at this place stands at an earlier place too
+pub record Repeats (names : List (List ℕ)) (place : ℕ) : Type 0 where
+  pub name : List ℕ
+  pub is : slice_get names place ≡ Some name
+  pub earlier : ℕ
+  pub below : earlier < place
+  pub same : slice_get names earlier ≡ Some name
+
+-- the name at the least place of which this is so
+pub record IsFirstRepeat (names : List (List ℕ)) (name : List ℕ) : Type 0 where
+  pub place : ℕ
+  pub is : slice_get names place ≡ Some name
+  pub repeats : Repeats names place
+  pub first : (k : ℕ) → k < place → Repeats names k → ⊥
+
+-- what is found is just the first repeat, and nothing is found just where no name stands twice
+pub record FindsFirstRepeat (names : List (List ℕ)) : Type 0 where
+  pub some : (name : List ℕ) → (first_repeat names ≡ Some name) ↔ IsFirstRepeat names name
+  pub none : (first_repeat names ≡ None) ↔ Differ names
+
+abbrev pub FirstRepeatIsFirst : Type 0
+FirstRepeatIsFirst = (names : List (List ℕ)) → FindsFirstRepeat names

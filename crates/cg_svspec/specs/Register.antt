@@ -3,7 +3,7 @@ use Rattle.std.specs.Prelude.{◌≡◌, ℕ, ◌≤◌, true, false, List, [], 
 use Rattle.std.specs.Str.{bytes_eq}
 use Rattle.cg_svspec.specs.Tree.{Expression, lit, Port, Entry, inst, Module}
 use Rattle.cg_svspec.specs.Printable.{AllOf}
-use Rattle.cg_svspec.specs.Value.{Values, Valuation, HasWidths, parameter_at, flop_name}
+use Rattle.cg_svspec.specs.Value.{Values, Valuation, IsReset, StatesFit, OutputsFit, HasWidths, parameter_at, flop_name}
 use Rattle.cg_svspec.specs.WellFormed.{WellFormed}
 
 abbrev pub input_port : ℕ → List ℕ → Port
@@ -40,3 +40,13 @@ abbrev pub RegisterHasValuation : Type 0
 RegisterHasValuation =
     (m : Module) → WellFormed m → IsRegister m → (inputs state : Values) → HasWidths m inputs state
     → (v : Values) × (next : Values) × Valuation m inputs state v next
+
+-- It has states at reset; states at reset have their widths; and so have the outputs, and the states after a clock.
+pub record KeepsWidths (m : Module) : Type 0 where
+  pub reset_exists : (state : Values) × IsReset m state
+  pub reset_fits : (state : Values) → IsReset m state → StatesFit m state
+  pub outputs_fit : (inputs state v next : Values) → HasWidths m inputs state → Valuation m inputs state v next → OutputsFit m v
+  pub next_fits : (inputs state v next : Values) → HasWidths m inputs state → Valuation m inputs state v next → StatesFit m next
+
+abbrev pub RegisterKeepsWidths : Type 0
+RegisterKeepsWidths = (m : Module) → WellFormed m → IsRegister m → KeepsWidths m

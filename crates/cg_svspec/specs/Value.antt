@@ -94,7 +94,34 @@ StateFitsIn state _ = Unit {0}
 abbrev pub InputFits : Values → Port → Type 0
 InputFits inputs p = cond p.input (length (inputs p.name) ≡ p.width) (Unit {0})
 
--- the inputs and the states have their widths
+-- the inputs have their widths
+abbrev pub InputsFit : Module → Values → Type 0
+InputsFit m inputs = AllOf (InputFits inputs) m.ports
+
+-- the states have theirs
+abbrev pub StatesFit : Module → Values → Type 0
+StatesFit m state = AllOf (StateFitsIn state) m.entries
+
+-- the outputs have theirs, in a valuation
+abbrev pub OutputFits : Values → Port → Type 0
+OutputFits v p = cond p.input (Unit {0}) (length (v p.name) ≡ p.width)
+
+abbrev pub OutputsFit : Module → Values → Type 0
+OutputsFit m v = AllOf (OutputFits v) m.ports
+
+-- inputs and states have
 pub record HasWidths (m : Module) (inputs state : Values) : Type 0 where
-  pub inputs_fit : AllOf (InputFits inputs) m.ports
-  pub states_fit : AllOf (StateFitsIn state) m.entries
+  pub inputs_fit : InputsFit m inputs
+  pub states_fit : StatesFit m state
+
+-- what comes of a clock: the values of the nets, and the states after it
+pub record Clocked : Type 0 where
+  pub nets : Values
+  pub after : Values
+
+-- A run of a module from these states over the inputs of each clock, with what comes of each. A clock goes on from the states that
+-- the one before left.
+pub data ModuleRun (m : Module) : Values → List Values → List Clocked → Type 0 where
+  stops : (state : Values) → ModuleRun m state [] []
+  goes_on : (state inputs : Values) (c : Clocked) (later : List Values) (cs : List Clocked) → Valuation m inputs state c.nets c.after → ModuleRun m c.after later cs
+      → ModuleRun m state (inputs ∷ later) (c ∷ cs)

@@ -11,10 +11,23 @@
 //! Not promised: that any other tool for SystemVerilog accepts these texts, or reads them the same way.
 #![tactic(auto)]
 
-ghost use Rattle.cg_svspec.specs.Register.{RegisterHasValuation};
+ghost use Rattle.cg_svspec.specs.Names.{FirstRepeatIsFirst};
+ghost use Rattle.cg_svspec.specs.Register.{RegisterHasValuation, RegisterKeepsWidths};
 ghost use Rattle.cg_svspec.specs.Stands.{PrintedTextStands, TextStandsForOneList};
 ghost use Rattle.cg_svspec.specs.Walk.{WalkHasOneEnd};
 ghost use Rattle.cg_svspec.specs.WellFormed.{ModuleHasValuation};
+
+/// A well-formed register module has states at reset; they have their widths, and so have its outputs, and the states after
+/// each clock.
+pub fn register_keeps_widths()
+    ensures { RegisterKeepsWidths }
+{}
+
+/// What is found as the first repeat is the name at the least place whose name stands earlier too, and nothing is found
+/// just where no name stands twice.
+pub fn first_repeat_is_first()
+    ensures { FirstRepeatIsFirst }
+{}
 
 /// What is printed stands for just the module that was printed.
 pub fn printed_text_stands()

@@ -4,7 +4,8 @@ use Rattle.cg_desc.specs.declared.block.RegDesc.{RegDesc}
 use Rattle.cg_desc.specs.declared.block.Item.{Item}
 use Rattle.cg_desc.specs.declared.block.Item.TheVariants.{Reg, Window, SkipTo, Reserved}
 use Rattle.cg_finding.specs.Finding.{Finding, finding}
-use Rattle.cg_layout.specs.Violations.{is_gate, is_row, register_among}
+use Rattle.cg_desc.specs.Gates.{is_gate, register_among}
+use Rattle.cg_layout.specs.Violations.{is_row}
 
 -- the interface has a register or a window
 abbrev pub has_row : List Item → Bool

@@ -1,16 +1,21 @@
 -- The block's step at work: a block with one register DATA of 32 bits, from offset 0 on.
-use Rattle.std.proofs.Common.{◌≡◌, ℕ, true, false, List, [], ◌∷◌, None, refl, codes}
+use Rattle.std.proofs.Common.{◌≡◌, ℕ, ◌<◌, true, false, List, [], ◌∷◌, None, refl, subst, inl, inr, arith, codes}
 use Rattle.cg_svspec.specs.Bits.{Bits, bits}
 use Rattle.cg_desc.specs.AccessTable.{next_value}
-use Rattle.cg_desc.specs.Target.{target_at, register, error}
+use Rattle.cg_svspec.specs.Names.{Among}
+use Rattle.cg_desc.specs.Target as target
+use Rattle.cg_desc.specs.Target.{HoldsAddress, IsTarget, at_register, target_at, register, error}
 use Rattle.cg_desc.specs.BlockStep.{Access, AccessKind, read, write, Fields, Hardware, is_error, takes_write, word_at, bits_of_field}
 use Rattle.cg_desc.specs.declared.block.SwAccess.TheVariants.{Rw}
 use Rattle.cg_desc.specs.declared.block.LaidFace.{LaidFace}
+use Rattle.cg_desc.specs.declared.block.LaidRow.{LaidRow}
 use Rattle.cg_desc.specs.declared.place.At.{At}
 use Rattle.cg_desc.specs.declared.block.HwAccess.TheVariants.{Hro}
 use Rattle.cg_desc.specs.declared.block.FieldDesc.{FieldDesc}
 use Rattle.cg_desc.specs.declared.block.RegDesc.{RegDesc}
 use Rattle.cg_desc.specs.declared.block.Item.TheVariants.{Reg}
+use Rattle.cg_regspec.specs.NetNames.{base}
+use Rattle.cg_regspec.specs.Ports.{IsOutput, field_value}
 
 abbrev data_name : List ℕ
 data_name = codes "DATA"
@@ -53,14 +58,33 @@ abbrev pub no_hardware : Hardware
 no_hardware = record { d = λ r f. []; de = λ r f. false; read_data = λ w. [] }
 
 -- offsets 0 to 3 are the register, and offset 4 is an error
-at_0 : target_at face 0 ≡ register 0
-at_0 = refl
+abbrev only_row : LaidRow
+only_row = record { first = 0; words = 1; item = Reg (register_of whole) }
 
-at_3 : target_at face 3 ≡ register 0
-at_3 = refl
+at_0 : IsTarget face 0 (register 0)
+at_0 = at_register 0 only_row (register_of whole) refl refl (record { from_start = omega arith; before_end = omega arith })
 
-at_4 : target_at face 4 ≡ error
-at_4 = refl
+at_3 : IsTarget face 3 (register 0)
+at_3 = at_register 0 only_row (register_of whole) refl refl (record { from_start = omega arith; before_end = omega arith })
+
+outside : HoldsAddress only_row 4 → ⊥
+outside holds = let end : 4 < 4 = holds.before_end in absurd (omega arith)
+
+not_held : (row : LaidRow) → Among row face.rows → HoldsAddress row 4 → ⊥
+not_held row (inl e) holds = outside (subst (λ r. HoldsAddress r 4) e holds)
+not_held row (inr none) holds = none
+
+at_4 : IsTarget face 4 error
+at_4 = target.nowhere not_held
+
+-- which going down the rows finds
+found_3 : target_at face 3 ≡ register 0
+found_3 = refl
+
+-- its register module has an output of 32 bits for the value
+value_port : IsOutput face 32 (codes "data_data_q")
+unfolding base
+value_port = field_value (register_of whole) whole (record { row = only_row; in_face = inl refl; is_register = refl; in_register = inl refl }) refl
 
 -- a write of 0x5 at offset 0 with all strobes is no error, and the register takes it
 written_fine : is_error face (register 0) (access write 0 5 every_byte) ≡ false

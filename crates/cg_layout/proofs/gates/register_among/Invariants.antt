@@ -1,5 +1,5 @@
 use Rattle.std.proofs.Common.{◌≡◌, drop}
-use Rattle.cg_layout.specs.Violations.{register_among}
+use Rattle.cg_desc.specs.Gates.{register_among}
 use Rattle.cg_layout.proofs.gates.register_among.Given as goal
 
 -- the items that are left have the register, or no item has it
