@@ -1,3 +1,4 @@
+mod Facts
 mod FieldOrder
 mod FirstBroken
 mod MoreKeys

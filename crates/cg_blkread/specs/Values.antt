@@ -1,4 +1,5 @@
--- What the entries of a block break of the rules on bits, reset values and counts.
+-- What the entries of a block break of the rules on bits, reset values and counts, as lists (the rules themselves are facts,
+-- in `Facts.Values`).
 use Rattle.std.specs.Prelude.{ℕ, ◌^◌, ◌/◌, ◌%◌, Bool, true, false, not, ◌&&◌, ◌==◌, nat_le, nat_lt, cond, is_some, List, [], ◌∷◌, ◌++◌, flat_map, Option, Some, None}
 use Rattle.std.specs.List.{list_any, list_all, range_with_len}
 use Rattle.std.specs.Option.{option_map_or}
@@ -39,22 +40,24 @@ wide_reset register f = cond (is_too_wide f.bits f.resval) (finding 3 32 f.resva
 
 -- ---- registers
 
+abbrev pub is_empty : List RawField → Bool
+is_empty [] = true
+is_empty (f ∷ fs) = false
+
 -- 33: it has no field
 abbrev pub no_fields : RawRegister → List Finding
-no_fields r = cond (is_none r.fields) (finding 3 33 r.fields_at r.name ∷ []) [] where
-  is_none : List RawField → Bool
-  is_none [] = true
-  is_none (f ∷ fs) = false
+no_fields r = cond (is_empty r.fields) (finding 3 33 r.fields_at r.name ∷ []) []
 
 abbrev pub holds_bit : ℕ → Option Bits → Bool
 holds_bit k (Some b) = nat_le b.lsb k && nat_le k b.msb
 holds_bit k None = false
 
+abbrev pub bit_is_one : ℕ → ℕ → Bool
+bit_is_one v k = (v / 2 ^ k) % 2 == 1
+
 -- some bit of the value is in none of the fields
 unfoldable pub has_stray_bit : List RawField → ℕ → Bool
-has_stray_bit fields value = list_any (λ k. bit_is_one value k && not (list_any (λ f. holds_bit k f.bits) fields)) (range_with_len 0 32) where
-  bit_is_one : ℕ → ℕ → Bool
-  bit_is_one v k = (v / 2 ^ k) % 2 == 1
+has_stray_bit fields value = list_any (λ k. bit_is_one value k && not (list_any (λ f. holds_bit k f.bits) fields)) (range_with_len 0 32)
 
 -- 32: the reset value of a register of good bits has a bit outside its fields
 unfoldable pub stray_reset : RawRegister → List Finding

@@ -28,7 +28,7 @@ use Rattle.cg_blkread.specs.Reads.{Violates as BreaksKeysOrValues}
 use Rattle.cg_blkread.specs.declared.raw.RawEntry.TheVariants as entry
 use Rattle.cg_blkread.proofs.Sound.Block.{valid_block}
 use Rattle.cg_expand.specs.Violations.{Violates as BreaksNamesOrCounts, field_name_twice}
-use Rattle.cg_expand.proofs.Membership.{contains_of}
+use Rattle.cg_finding.proofs.Membership.{contains_of}
 use Rattle.cg_samespec.specs.Laws.{ReadFieldsAreApart}
 use Rattle.cg_samespec.specs.Same.{ItemIsApart}
 use Rattle.cg_samespec.proofs.ApartTrees.{Stands, document_stands}
