@@ -10,7 +10,9 @@ use Rattle.cg_finding.specs.Finding.{Among}
 use Rattle.cg_finding.proofs.Members.{flat_map_has, in_flat_map}
 use Rattle.cg_finding.proofs.Membership.{in_map, is_other_text, is_same_text, map_has, other_text, same_text}
 use Rattle.cg_keys.specs.Table.{value_at}
-use Rattle.cg_keys.specs.Values.{items_of, members_of, object_in, or_empty}
+use Rattle.cg_hjson.specs.declared.tree.Kind.{out-Kind}
+use Rattle.cg_hjson.specs.declared.tree.Kind.TheOpen as level
+use Rattle.cg_keys.specs.Values.{Level, array_level, items_of, members_of, object_in, object_level, or_empty}
 use Rattle.cg_blkread.specs.Facts.Parts.{HasAt, HasNot, IsEntry, IsEntryList, sole, member}
 use Rattle.cg_blkread.specs.Interfaces.{EntryList, entry_lists, first_members, first_members_after, lists_in, lists_of_value}
 
@@ -83,6 +85,22 @@ counts_first key value before (n ∷ ns) there new =
           let other : bytes_eq key n.key ≡ false = is_other_text key n.key (λ is. other_text n.key key e (sym is)) in
           inr (later there (ap (λ b. b || list_any (bytes_eq key) before) other ∙ new))
 
+-- a member that counts is the one whose value stands at its key
+pub first_is : (ms : List Member) (m : Member) → Among m (first_members ms) → value_at m.key ms ≡ Some m.value
+first_is ms m among = (first_counts [] ms m among).there
+
+-- the member that counts for a key
+pub record First (ms : List Member) (key : List ℕ) (value : Tree) : Type 0 where
+  pub member : Member
+  pub among : Among member (first_members ms)
+  pub key_is : key ≡ member.key
+  pub value_is : value ≡ member.value
+
+pub is_first : (ms : List Member) (key : List ℕ) (value : Tree) → value_at key ms ≡ Some value → First ms key value
+is_first ms key value there =
+    let one = in_map list_of_member (first_members ms) (record { key = key; value = value }) (counts_first key value [] ms there refl) in
+    record { member = one.source; among = one.among; key_is = ap (λ (l : EntryList). l.key) one.is; value_is = ap (λ (l : EntryList). l.value) one.is }
+
 -- ---- lists of entries
 
 pub listed_is : (t : Tree) (l : EntryList) → Among l (entry_lists (members_of t)) → IsEntryList t l.key l.value
@@ -134,3 +152,11 @@ has_object key t value there = by (object_in t) there where
   by : (o : Option (List Member)) → value_at key (or_empty o) ≡ Some value → is_some o ≡ true
   by None there = cc
   by (Some ms) there = refl
+
+-- an object is no list
+pub no_items : (t : Tree) (ms : List Member) → object_in t ≡ Some ms → items_of t ≡ []
+no_items t ms is = by (out-Kind t.kind) is where
+  by : (l : Level) → object_level l ≡ Some ms → or_empty (array_level l) ≡ []
+  by (level.Object ns) h = refl
+  by (level.Array ts) h = cc
+  by l h = refl
