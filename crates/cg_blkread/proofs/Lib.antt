@@ -1,4 +1,4 @@
-mod Facts
+pub mod Facts
 mod FieldOrder
 mod FirstBroken
 mod MoreKeys

@@ -148,3 +148,22 @@ listed_violates t f among = by (key_faults t) refl among where
   by : (fs : List Finding) → key_faults t ≡ fs → In f (of_least_phase fs (reads.value_faults t)) → Violates t f
   by [] is among = Violates.values (λ g breaks. absurd (subst (In g) is (listed_shape t g breaks))) (values_tell t f among)
   by (g ∷ gs) is among = Violates.shape (shape_tells t f (subst (In f) (sym is) among))
+
+-- ---- blocks that break nothing
+
+none_in : (fs : List Finding) → ((f : Finding) → ¬ In f fs) → fs ≡ []
+none_in [] none = refl
+none_in (f ∷ fs) none = absurd (none f (inl refl))
+
+-- where nothing is broken, nothing is listed
+pub nothing_listed : (t : Tree) → ((f : Finding) → ¬ Violates t f) → (key_faults t ≡ []) × (reads.value_faults t ≡ [])
+nothing_listed t sound =
+    by (key_faults t) (none_in (of_least_phase (key_faults t) (reads.value_faults t)) (λ f among. sound f (listed_violates t f among))) where
+      by : (fs : List Finding) → of_least_phase fs (reads.value_faults t) ≡ [] → (fs ≡ []) × (reads.value_faults t ≡ [])
+      by [] h = (refl, h)
+      by (g ∷ gs) h = cc
+
+-- where nothing is listed, nothing is broken
+pub nothing_broken : (t : Tree) → key_faults t ≡ [] → reads.value_faults t ≡ [] → (f : Finding) → ¬ Violates t f
+nothing_broken t keys values f violates =
+    subst (In f) values (subst (λ fs. In f (of_least_phase fs (reads.value_faults t))) keys (violates_listed t f violates))
