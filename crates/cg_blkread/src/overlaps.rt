@@ -42,12 +42,7 @@ fn overlap<'a>(seen: &[Bits], field: &'a RawField) -> Option<Found<'a>>
     ensures { (before : List RawField) → HasBitsOf seen.now before → sees result ≡ first_of (overlap before field.now) }
 {
     if shares_bit_if_any(seen, field.bits) {
-        Some(Found {
-            phase: 3,
-            rule: 31,
-            at: field.bits_at,
-            name: field.name.as_str(),
-        })
+        Some(Found::fields_overlap(field.bits_at, field.name.as_str()))
     } else {
         None
     }

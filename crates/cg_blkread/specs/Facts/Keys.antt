@@ -3,11 +3,11 @@ use Rattle.std.specs.Prelude.{◌≡◌, ◌⊎◌, ◌<◌, ℕ, false, codes, 
 use Rattle.cg_svspec.specs.Names.{Among}
 use Rattle.cg_hjson.specs.declared.tree.Tree.{Tree}
 use Rattle.cg_hjson.specs.declared.tree.Member.{Member}
-use Rattle.cg_finding.specs.Finding.{Finding, finding}
+use Rattle.cg_finding.specs.Finding.{Finding}
 use Rattle.cg_finding.specs.Rules.{wrong_kind}
 use Rattle.cg_keys.specs.Elements.{elements}
-use Rattle.cg_keys.specs.Forms.{fits_one, rule_broken}
-use Rattle.cg_keys.specs.Table.{Key}
+use Rattle.cg_keys.specs.Forms.{fits_one}
+use Rattle.cg_keys.specs.Table.{Key, misfit}
 use Rattle.cg_keys.specs.Values.{array_in, items_of, members_of, object_in}
 use Rattle.cg_keys.specs.Violations.{BreaksTable, DuplicateKey}
 use Rattle.cg_keys.specs.declared.forms.Form.{Form}
@@ -66,7 +66,7 @@ pub data BreaksKeys (t : Tree) : Finding → Type 0 where
       → BreaksTable object.at ms keys f → BreaksKeys t f
   -- 22, 24: a list of entries, or an entry's one value, has not its form
   unfit : {key : List ℕ} {forms : List Form} (value : Tree) → HasForms t key forms value → fits_one forms value ≡ false
-      → BreaksKeys t (finding 2 (rule_broken forms value) value.at key)
+      → BreaksKeys t (misfit key forms value)
   -- 22: an element of a list of objects is no object; at the list
   no_object : {key : List ℕ} (list element : Tree) → ListsOnlyObjects t key list → Among element (items_of list) → object_in element ≡ None
       → BreaksKeys t (wrong_kind list.at key)
