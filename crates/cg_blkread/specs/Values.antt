@@ -6,6 +6,7 @@ use Rattle.std.specs.Option.{option_map_or}
 use Rattle.cg_finding.specs.Finding.{Finding, each_after}
 use Rattle.cg_finding.specs.Rules as rules
 use Rattle.cg_blkread.specs.Bits.{width_of}
+use Rattle.cg_blkread.specs.Seen.{have_common_bit}
 use Rattle.cg_blkread.specs.declared.raw.Bits.{Bits}
 use Rattle.cg_blkread.specs.declared.raw.RawField.{RawField}
 use Rattle.cg_blkread.specs.declared.raw.RawRegister.{RawRegister}
@@ -22,7 +23,7 @@ bad_bits register f = cond (is_some f.bits) [] (rules.bad_bits f.bits_at registe
 
 -- two fields of good bits have one in common
 abbrev pub shares_bit : Option Bits → Option Bits → Bool
-shares_bit (Some a) (Some b) = nat_le a.lsb b.msb && nat_le b.lsb a.msb
+shares_bit (Some a) (Some b) = have_common_bit a b
 shares_bit (Some a) None = false
 shares_bit None b = false
 

@@ -153,7 +153,7 @@ stray_bit fields value h =
       below = in_range 0 32 k found.among;
       one = eqb-true ((value / 2 ^ k) % 2) 1 parts.0;
       free = λ f among has.
-      let held : list_any (λ (g : RawField). holds_bit k g.bits) fields ≡ true = finds_any (λ (g : RawField). holds_bit k g.bits) fields f among (holds k f has) in cc;
+          let held : list_any (λ (g : RawField). holds_bit k g.bits) fields ≡ true = finds_any (λ (g : RawField). holds_bit k g.bits) fields f among (holds k f has) in cc;
     }
 
 is_stray : (fields : List RawField) (value k : ℕ) → k < 32 → IsOne value k → ((f : RawField) → Among f fields → ¬ HasBit k f) → has_stray_bit fields value ≡ true
