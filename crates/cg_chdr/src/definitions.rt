@@ -30,7 +30,13 @@ fn add_field(
     if field.msb == field.lsb {
         add_decimal(alloc, definitions, name.as_str(), "_BIT", lsb)?;
     } else {
-        add_hexadecimal(alloc, definitions, name.as_str(), "_MASK", field_mask(field))?;
+        add_hexadecimal(
+            alloc,
+            definitions,
+            name.as_str(),
+            "_MASK",
+            field_mask(field),
+        )?;
         add_decimal(alloc, definitions, name.as_str(), "_OFFSET", lsb)?;
     }
     Ok(())
