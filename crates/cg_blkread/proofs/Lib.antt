@@ -3,6 +3,7 @@ mod FieldOrder
 mod FirstBroken
 mod MoreKeys
 mod NameSets
+mod Order
 mod Picked
 mod SeenBits
 mod SeenKeys

@@ -8,5 +8,6 @@ pub mod Seen
 pub mod Values
 pub mod Facts
 pub mod Described
+pub mod Order
 pub mod Reads
 pub mod Views
