@@ -13,6 +13,7 @@ use Rattle.cg_keys.specs.Values.{members_of}
 use Rattle.cg_blkread.specs.Reads.{Violates, raw_entries, value_faults}
 use Rattle.cg_blkread.specs.Values.{entry_values}
 use Rattle.cg_blkread.specs.declared.raw.RawEntry.{RawEntry}
+use Rattle.cg_blkread.proofs.Facts.Listed.{listed_violates, violates_listed}
 
 -- a refusal that names the first of all that is broken
 refused : (e : DescFault) (file : ℕ) (t : Tree) (fs : List Finding) → of_least_phase (key_faults t) (value_faults t) ≡ fs → Refuses e file fs
@@ -21,8 +22,8 @@ refused (Fault fault) file t fs is (f, names, first) = (
   f,
   names,
   record {
-    violates = subst (In f) (sym is) first.among;
-    least = λ (number : ℕ) (g : Finding) violates. first.least number g (subst (In g) is violates);
+    violates = listed_violates t f (subst (In f) (sym is) first.among);
+    least = λ (number : ℕ) (g : Finding) violates. first.least number g (subst (In g) is (violates_listed t g violates));
   },
 )
 refused Memory file t fs is refuses = tt
@@ -40,7 +41,7 @@ refused_by_values e file t none refuses = refused e file t (value_faults t) (lea
 -- where nothing comes first, nothing is broken
 pub none_broken : (t : Tree) → first_of (key_faults t) ≡ None → first_of (value_faults t) ≡ None → (f : Finding) → ¬ Violates t f
 none_broken t keys values f violates =
-    subst (In f) (least_phase_is_later (key_faults t) (value_faults t) keys ∙ none_is_empty (value_faults t) values) violates
+    subst (In f) (least_phase_is_later (key_faults t) (value_faults t) keys ∙ none_is_empty (value_faults t) values) (violates_listed t f violates)
 
 -- the first of the rules on values, over the entries that were read
 pub values_first : (t : Tree) (entries : List RawEntry) (o : Option Finding) → entries ≡ raw_entries (members_of t)

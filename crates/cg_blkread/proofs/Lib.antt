@@ -1,7 +1,9 @@
+pub mod Facts
 mod FieldOrder
 mod FirstBroken
 mod MoreKeys
 mod NameSets
+mod Order
 mod Picked
 mod SeenBits
 mod SeenKeys

@@ -7,6 +7,7 @@ pub mod Fields
 pub mod Forms
 pub mod Keys
 pub mod Objects
+pub mod Ports
 pub mod RawFields
 pub mod Values
 pub mod Words

@@ -57,7 +57,7 @@ unfoldable pub put_field : FieldDesc → List FieldDesc → List FieldDesc
 put_field f [] = f ∷ []
 put_field f (g ∷ gs) = cond (nat_lt f.lsb g.lsb) (f ∷ g ∷ gs) (g ∷ put_field f gs)
 
--- the fields in the order of their lowest bits
+-- the fields in the order of their lowest bits: the one rising order of the fields, as a law says
 unfoldable pub in_bit_order : List FieldDesc → List FieldDesc
 in_bit_order [] = []
 in_bit_order (f ∷ fs) = put_field f (in_bit_order fs)

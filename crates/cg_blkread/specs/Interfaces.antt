@@ -6,7 +6,8 @@ use Rattle.std.specs.Str.{bytes_eq}
 use Rattle.cg_desc.specs.declared.place.At.{At}
 use Rattle.cg_hjson.specs.declared.tree.Tree.{Tree}
 use Rattle.cg_hjson.specs.declared.tree.Member.{Member}
-use Rattle.cg_finding.specs.Finding.{Finding, finding}
+use Rattle.cg_finding.specs.Finding.{Finding}
+use Rattle.cg_finding.specs.Rules as rules
 use Rattle.cg_keys.specs.Values.{object_in, array_in, members_of}
 use Rattle.cg_keys.specs.Table.{value_at}
 use Rattle.cg_keys.specs.Elements.{elements}
@@ -83,12 +84,12 @@ at_value key ms f = option_map_or (λ t. f t.at) (value_at key ms) []
 
 -- 22: more than eight device interfaces
 unfoldable pub many_devices : List Member → List Finding
-many_devices ms = cond (nat_lt 8 (length (devices ms))) (at_value (codes "bus_interfaces") ms (λ at. finding 2 22 at (codes "bus_interfaces") ∷ [])) []
+many_devices ms = cond (nat_lt 8 (length (devices ms))) (at_value (codes "bus_interfaces") ms (λ at. rules.wrong_kind at (codes "bus_interfaces") ∷ [])) []
 
 -- 21: one of several device interfaces has no name
 unfoldable pub nameless_devices : List Member → List Finding
 nameless_devices ms =
-    cond (nat_lt 1 (length (devices ms))) (flat_map (λ t. cond (is_some (interface_name t)) [] (finding 2 21 t.at (codes "name") ∷ [])) (devices ms)) []
+    cond (nat_lt 1 (length (devices ms))) (flat_map (λ t. cond (is_some (interface_name t)) [] (rules.missing_key t.at (codes "name") ∷ [])) (devices ms)) []
 
 abbrev pub same_name : Option (List ℕ) → Option (List ℕ) → Bool
 same_name None None = true
@@ -104,7 +105,7 @@ has_same_names (t ∷ ts) = list_any (λ u. same_name (interface_name t) (interf
 -- 22: two interfaces of one direction have one name, or none
 unfoldable pub equal_names : List Member → List Finding
 equal_names ms =
-    cond (has_same_names (devices ms) || has_same_names (hosts ms)) (at_value (codes "bus_interfaces") ms (λ at. finding 2 22 at (codes "bus_interfaces") ∷ [])) []
+    cond (has_same_names (devices ms) || has_same_names (hosts ms)) (at_value (codes "bus_interfaces") ms (λ at. rules.wrong_kind at (codes "bus_interfaces") ∷ [])) []
 
 -- one list is asked for where there is no device interface, or the only one has no name
 abbrev pub asks_for_list : List Tree → Bool
@@ -127,11 +128,11 @@ has_stray_entries ds t (Some ms) = list_any (λ m. not (names_device ds m.key) &
 unfoldable pub shape_faults : List Member → List Finding
 shape_faults ms = option_map_or (λ t.
     cond ((is_some (array_in t) && not (asks_for_list (devices ms))) || ((is_some (object_in t) && asks_for_list (devices ms)) || has_stray_entries (devices ms) t (object_in t)))
-    (finding 2 22 t.at (codes "registers") ∷ []) []) (value_at (codes "registers") ms) []
+    (rules.wrong_kind t.at (codes "registers") ∷ []) []) (value_at (codes "registers") ms) []
 
 abbrev pub missing_list : At → List Member → Option (List ℕ) → List Finding
 missing_list opener ms None = []
-missing_list opener ms (Some name) = cond (is_some (value_at name ms)) [] (finding 2 21 opener name ∷ [])
+missing_list opener ms (Some name) = cond (is_some (value_at name ms)) [] (rules.missing_key opener name ∷ [])
 
 -- 21: `registers` is an object without the list of a named device interface
 unfoldable pub missing_lists : List Member → List Finding

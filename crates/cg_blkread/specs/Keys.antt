@@ -7,7 +7,8 @@ use Rattle.cg_desc.specs.declared.block.SwAccess.{SwAccess}
 use Rattle.cg_desc.specs.declared.block.SwAccess.TheVariants.{Ro, Rw, Wo, Nothing}
 use Rattle.cg_hjson.specs.declared.tree.Tree.{Tree}
 use Rattle.cg_hjson.specs.declared.tree.Member.{Member}
-use Rattle.cg_finding.specs.Finding.{Finding, finding}
+use Rattle.cg_finding.specs.Finding.{Finding}
+use Rattle.cg_finding.specs.Rules as rules
 use Rattle.cg_keys.specs.Values.{array_in, text_in, members_of, items_of}
 use Rattle.cg_keys.specs.Forms.{software, fits}
 use Rattle.cg_keys.specs.Table.{Key, value_at, value_faults, table_faults}
@@ -24,7 +25,7 @@ use Rattle.cg_blkread.specs.declared.raw.Bits.{Bits}
 
 -- a key whose presence alone is outside
 unfoldable pub outside_key : List Member → List ℕ → List Finding
-outside_key ms key = at_value key ms (λ at. finding 2 26 at key ∷ [])
+outside_key ms key = at_value key ms (λ at. rules.outside_the_profile at key ∷ [])
 
 -- a key that is outside where it is true
 unfoldable pub outside_if_true : List Member → List ℕ → List Finding

@@ -6,6 +6,8 @@ pub mod Raw
 pub mod Shared
 pub mod Seen
 pub mod Values
+pub mod Facts
 pub mod Described
+pub mod Order
 pub mod Reads
 pub mod Views

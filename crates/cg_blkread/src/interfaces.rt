@@ -90,12 +90,7 @@ fn wrong_at<'a>(block: &[Member], key: &'a str) -> Option<Found<'a>>
     ensures { sees result ≡ first_of (at_value key.now block.now (λ at. finding 2 22 at key.now ∷ [])) }
 {
     let tree = value_at(block, key)?;
-    Some(Found {
-        phase: 2,
-        rule: 22,
-        at: tree.at,
-        name: key,
-    })
+    Some(Found::wrong_kind(tree.at, key))
 }
 
 /// Whether there are more interfaces than so many.
@@ -126,12 +121,7 @@ fn nameless(interface: &Tree) -> Option<Found<'static>>
     if interface_name(interface).is_some() {
         None
     } else {
-        Some(Found {
-            phase: 2,
-            rule: 21,
-            at: interface.at,
-            name: "name",
-        })
+        Some(Found::missing_key(interface.at, "name"))
     }
 }
 

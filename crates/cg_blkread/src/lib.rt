@@ -20,6 +20,7 @@ mod entry_lists;
 mod interface;
 mod interfaces;
 mod keys;
+mod laws;
 mod overlaps;
 mod parameters;
 mod profile;
@@ -32,6 +33,7 @@ mod tables;
 mod values;
 
 pub use described_entries::reset_of;
+pub use laws::{fields_stand_in_order, violations_are_listed};
 pub use raw::{Bits, RawEntry, RawField, RawMultireg, RawRegister, RawWindow};
 pub use read_entries::is_compact;
 pub use read_fields::{Shared, is_true, register_reset, shared_of, written_fields};

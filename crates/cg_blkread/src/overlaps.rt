@@ -15,7 +15,7 @@ use cg_base::{List, Memory};
 use cg_finding::{Found, earlier_of};
 use std::alloc::Global;
 
-fn shares_bit(seen: &[Bits], bits: Bits) -> bool
+fn has_common_bit(seen: &[Bits], bits: Bits) -> bool
     ensures { result ≡ list_any (λ b. have_common_bit b bits) seen.now }
 {
     seen.iter().any(|earlier| earlier.lsb <= bits.msb && bits.lsb <= earlier.msb)
@@ -31,7 +31,7 @@ fn shares_bit_if_any(seen: &[Bits], bits: Option<Bits>) -> bool
     ensures { result ≡ option_map_or (λ own. list_any (λ b. have_common_bit b own) seen.now) bits false }
 {
     match bits {
-        Some(bits) => shares_bit(seen, bits),
+        Some(bits) => has_common_bit(seen, bits),
         None => false,
     }
 }
@@ -42,12 +42,7 @@ fn overlap<'a>(seen: &[Bits], field: &'a RawField) -> Option<Found<'a>>
     ensures { (before : List RawField) → HasBitsOf seen.now before → sees result ≡ first_of (overlap before field.now) }
 {
     if shares_bit_if_any(seen, field.bits) {
-        Some(Found {
-            phase: 3,
-            rule: 31,
-            at: field.bits_at,
-            name: field.name.as_str(),
-        })
+        Some(Found::fields_overlap(field.bits_at, field.name.as_str()))
     } else {
         None
     }

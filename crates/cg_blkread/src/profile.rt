@@ -30,12 +30,7 @@ pub(crate) fn outside_key<'a>(members: &[Member], key: &'a str) -> Option<Found<
     ensures { sees result ≡ first_of (outside_key members.now key.now) }
 {
     let tree = value_at(members, key)?;
-    Some(Found {
-        phase: 2,
-        rule: 26,
-        at: tree.at,
-        name: key,
-    })
+    Some(Found::outside_the_profile(tree.at, key))
 }
 
 fn is_true(members: &[Member], key: &str) -> bool

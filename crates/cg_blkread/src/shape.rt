@@ -114,12 +114,7 @@ pub(crate) fn first_in_shape(
     let has_wrong_shape = has_wrong_shape(device_faces, tree);
     let has_stray_entries = has_stray_entries(alloc, device_faces, tree)?;
     if has_wrong_shape || has_stray_entries {
-        Ok(Some(Found {
-            phase: 2,
-            rule: 22,
-            at: tree.at,
-            name: "registers",
-        }))
+        Ok(Some(Found::wrong_kind(tree.at, "registers")))
     } else {
         Ok(None)
     }
@@ -134,12 +129,7 @@ fn missing_list<'a>(opener: At, keys: &HashSet<&str>, interface: &'a Tree) -> Op
     if keys.contains(name) {
         None
     } else {
-        Some(Found {
-            phase: 2,
-            rule: 21,
-            at: opener,
-            name,
-        })
+        Some(Found::missing_key(opener, name))
     }
 }
 

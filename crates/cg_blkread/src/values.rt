@@ -20,12 +20,7 @@ fn bad_bits<'a>(register: &'a str, field: &RawField) -> Option<Found<'a>>
     if field.bits.is_some() {
         None
     } else {
-        Some(Found {
-            phase: 3,
-            rule: 30,
-            at: field.bits_at,
-            name: register,
-        })
+        Some(Found::bad_bits(field.bits_at, register))
     }
 }
 
@@ -63,12 +58,7 @@ fn wide_reset<'a>(register: &'a str, field: &RawField) -> Option<Found<'a>>
     ensures { sees result ≡ first_of (wide_reset register.now field.now) }
 {
     if is_too_wide(field.bits, field.resval) {
-        Some(Found {
-            phase: 3,
-            rule: 32,
-            at: field.resval_at,
-            name: register,
-        })
+        Some(Found::reset_too_wide(field.resval_at, register))
     } else {
         None
     }
@@ -90,12 +80,7 @@ fn no_fields(register: &RawRegister) -> Option<Found<'_>>
     ensures { sees result ≡ first_of (no_fields register.now) }
 {
     match register.fields.as_slice() {
-        [] => Some(Found {
-            phase: 3,
-            rule: 33,
-            at: register.fields_at,
-            name: register.name.as_str(),
-        }),
+        [] => Some(Found::no_fields(register.fields_at, register.name.as_str())),
         _ => None,
     }
 }
@@ -148,12 +133,7 @@ fn stray_reset(register: &RawRegister) -> Option<Found<'_>>
     ensures { sees result ≡ first_of (stray_reset register.now) }
 {
     if are_good(register.fields.as_slice()) && has_stray_reset(register) {
-        Some(Found {
-            phase: 3,
-            rule: 32,
-            at: register.resval_at,
-            name: register.name.as_str(),
-        })
+        Some(Found::reset_too_wide(register.resval_at, register.name.as_str()))
     } else {
         None
     }
@@ -193,12 +173,7 @@ fn bad_count(multireg: &RawMultireg) -> Option<Found<'_>>
     if is_count_to(4096, multireg.count) {
         None
     } else {
-        Some(Found {
-            phase: 3,
-            rule: 37,
-            at: multireg.count_at,
-            name: multireg.register.name.as_str(),
-        })
+        Some(Found::bad_count(multireg.count_at, multireg.register.name.as_str()))
     }
 }
 
@@ -209,12 +184,7 @@ fn bad_window(window: &RawWindow) -> Option<Found<'_>>
     if is_count_to(4_194_304, window.items) {
         None
     } else {
-        Some(Found {
-            phase: 3,
-            rule: 40,
-            at: window.items_at,
-            name: window.name.as_str(),
-        })
+        Some(Found::bad_window(window.items_at, window.name.as_str()))
     }
 }
 

@@ -5,7 +5,7 @@ use Rattle.cg_svspec.specs.Printable.{AllOf}
 use Rattle.cg_desc.specs.Items.{items_of_block}
 use Rattle.cg_desc.specs.Valid.{IsValidBlock, IsValidItem}
 use Rattle.cg_desc.specs.declared.block.BlockDesc.{BlockDesc}
-use Rattle.cg_finding.specs.Finding.{Finding, finding, In, first_of, of_least_phase}
+use Rattle.cg_finding.specs.Finding.{Finding, finding, first_of}
 use Rattle.cg_finding.proofs.Firsts.{first_of-empty}
 use Rattle.cg_hjson.specs.declared.tree.Tree.{Tree}
 use Rattle.cg_hjson.specs.Views.{tree_of}
@@ -14,20 +14,15 @@ use Rattle.cg_done.specs.Completed.{IsReadBlock}
 use Rattle.cg_files.specs.Files.{File, HasTree}
 use Rattle.cg_block.specs.Stages.{IsBlock}
 use Rattle.cg_blkread.specs.Described.{block_of}
-use Rattle.cg_blkread.specs.Keys.{key_faults}
-use Rattle.cg_blkread.specs.Reads.{value_faults, Violates as BreaksKeysOrValues}
+use Rattle.cg_blkread.specs.Reads.{Violates as BreaksKeysOrValues}
+use Rattle.cg_blkread.proofs.Facts.Listed.{nothing_listed}
 use Rattle.cg_blkread.proofs.Sound.Block.{valid_block}
 use Rattle.cg_expand.specs.Violations.{Violates as BreaksNamesOrCounts, interrupt_bits, interrupts, alerts}
 use Rattle.cg_expand.proofs.ValidItems.{block_valid}
 
-neither_phase : (keys values : List Finding) → ((f : Finding) → ¬ In f (of_least_phase keys values)) → (keys ≡ []) × (values ≡ [])
-neither_phase [] [] none = (refl, refl)
-neither_phase [] (f ∷ fs) none = absurd (none f (inl refl))
-neither_phase (f ∷ fs) values none = absurd (none f (inl refl))
-
 pub described_is_valid : (file : ℕ) (t : Tree) → ((f : Finding) → ¬ BreaksKeysOrValues t f) → IsValidBlock (block_of file t)
 described_is_valid file t none =
-    let both = neither_phase (key_faults t) (value_faults t) none in
+    let both = nothing_listed t none in
     valid_block file t (ap first_of both.0 ∙ first_of-empty) (ap first_of both.1 ∙ first_of-empty)
 
 few_by : (most n : ℕ) (b : Bool) → nat_lt most n ≡ b → ¬ (most < n) → n ≤ most

@@ -8,7 +8,7 @@ ghost use Rattle.cg_chdr.specs.Views.{definition_of};
 
 use crate::definition::{Definition, add_decimal, add_hexadecimal};
 use crate::names;
-use crate::values::{mask, reset_word};
+use crate::values::{field_mask, reset_word};
 use cg_base::{List, Memory};
 use cg_desc::{FieldDesc, Item, LaidBlock, LaidFace, LaidRow};
 use std::alloc::Global;
@@ -30,7 +30,13 @@ fn add_field(
     if field.msb == field.lsb {
         add_decimal(alloc, definitions, name.as_str(), "_BIT", lsb)?;
     } else {
-        add_hexadecimal(alloc, definitions, name.as_str(), "_MASK", mask(field))?;
+        add_hexadecimal(
+            alloc,
+            definitions,
+            name.as_str(),
+            "_MASK",
+            field_mask(field),
+        )?;
         add_decimal(alloc, definitions, name.as_str(), "_OFFSET", lsb)?;
     }
     Ok(())

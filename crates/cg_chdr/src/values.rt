@@ -4,17 +4,18 @@ ghost use Rattle.std.specs.Prelude.{◌≡◌, ◌≤◌, ◌<◌, ◌^◌};
 ghost use Rattle.cg_hdrspec.specs.BlockHeader.{mask, reset_word};
 ghost use Rattle.cg_chdr.specs.Small.{FieldsAreSmall};
 
+use cg_base::mask;
 use cg_desc::FieldDesc;
 
 /// The ones of a field's width, which are not shifted.
 #[tactic(auto, unfolding(cg_hdrspec::specs::BlockHeader::mask))]
-pub fn mask(field: &FieldDesc) -> u32
+pub fn field_mask(field: &FieldDesc) -> u32
     requires order { field.now.lsb ≤ field.now.msb }
     requires within { field.now.msb < 32 }
     ensures { result ≡ mask field.now }
 {
     let width = u32::from(field.msb - field.lsb) + 1;
-    ((1u64 << width) - 1) as u32
+    mask(width) as u32
 }
 
 /// The word of the fields' reset values, each at its bits.

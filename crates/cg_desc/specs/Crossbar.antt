@@ -1,7 +1,7 @@
 -- A crossbar's description: its nodes by their numbers, who connects to whom, and when it is valid (OpenTitan Crossbar Tool).
 use Rattle.std.specs.Prelude.{◌≡◌, ◌⊎◌, ℕ, ◌^◌, ◌<◌, ◌≤◌, true, false, List, [], ◌∷◌, ◌++◌, length, slice_get, Some}
-use Rattle.cg_svspec.specs.Characters.{IsName}
 use Rattle.cg_svspec.specs.Names.{Among}
+pub use Rattle.cg_desc.specs.Valid.{IsShortName}
 use Rattle.cg_desc.specs.declared.crossbar.Range.{Range}
 use Rattle.cg_desc.specs.declared.crossbar.NodeDesc.{NodeDesc}
 use Rattle.cg_desc.specs.declared.crossbar.XbarDesc.{XbarDesc}
@@ -25,10 +25,6 @@ abbrev pub Connects : XbarDesc → ℕ → ℕ → Type 0
 Connects x h d = (node : NodeDesc) × NodeIs x h node × (node.host ≡ true) × Among d node.to
 
 -- ---- valid descriptions
-
--- a name of at most 40 characters
-abbrev pub IsShortName : List ℕ → Type 0
-IsShortName name = IsName name × (length name ≤ 40)
 
 -- such a name, or two joined by a dot
 abbrev pub IsNodeName : List ℕ → Type 0

@@ -1,8 +1,10 @@
 -- When a laid interface is whole: its rows at their places, its fields in order, its gates there.
-use Rattle.std.specs.Prelude.{◌≡◌, ℕ, suc, ◌-◌, ◌*◌, ◌^◌, ◌<◌, ◌≤◌, true, List, [], ◌∷◌, Option, Some, None}
+use Rattle.std.specs.Prelude.{◌≡◌, ℕ, suc, max, ◌-◌, ◌*◌, ◌^◌, ◌<◌, ◌≤◌, true, List, [], ◌∷◌, Option, Some, None}
+use Rattle.std.specs.Int.{IsNextPowerOfTwo}
 use Rattle.cg_svspec.specs.Characters.{IsWord}
 use Rattle.cg_desc.specs.Target.{row_end}
 use Rattle.cg_desc.specs.Gates.{register_named, is_gate}
+use Rattle.cg_desc.specs.Offsets.{IsSpan}
 use Rattle.cg_desc.specs.declared.block.SwAccess.{SwAccess}
 use Rattle.cg_desc.specs.declared.block.SwAccess.TheVariants.{Ro, Rw, Wo}
 use Rattle.cg_desc.specs.declared.block.FieldDesc.{FieldDesc}
@@ -77,7 +79,16 @@ abbrev pub HasRow : List LaidRow → Type 0
 HasRow [] = ⊥
 HasRow (row ∷ rows) = Unit {0}
 
--- the interface has at most 2^24 bytes, and at least one row
+-- The last row ends here: a register takes 4 bytes, and a window the least power of two that its words fit in.
+pub data LastEnds : List LaidRow → ℕ → Type 0 where
+  last : {row : LaidRow} {span : ℕ} → IsSpan row.item span → LastEnds (row ∷ []) (row.first + span)
+  later : {row next : LaidRow} {rows : List LaidRow} {end : ℕ} → LastEnds (next ∷ rows) end → LastEnds (row ∷ next ∷ rows) end
+
+-- The interface has at least one row, and at most 2^24 bytes: its size is the least power of two that its rows and one word fit in.
 pub record IsLaid (face : LaidFace) : Type 0 where
   pub some_row : HasRow face.rows
   pub rows : RowsFit face.rows 0 face.rows
+  pub end : ℕ
+  pub ends : LastEnds face.rows end
+  pub size : IsNextPowerOfTwo (max end 4) face.size
+  pub few_bytes : face.size ≤ 2 ^ 24

@@ -6,7 +6,7 @@ use Rattle.serde_json.specs.Data.{Data, null, boolean, number, string, array, ob
 use Rattle.cg_docspec.specs.Place.{Place}
 use Rattle.cg_docspec.specs.Tree as document
 use Rattle.cg_svspec.specs.Characters.{IsName}
-use Rattle.cg_finding.specs.Finding.{Finding, In, of_least_phase}
+use Rattle.cg_finding.specs.Finding.{Finding}
 use Rattle.cg_desc.specs.declared.block.BlockDesc.{BlockDesc}
 use Rattle.cg_hjson.specs.Integers.{in_range}
 use Rattle.cg_hjson.specs.Json.{Everywhere, HasRange, InMembers, InTrees, IntegersFit, KeysDiffer, WithinKind, json_kind, json_of}
@@ -23,7 +23,8 @@ use Rattle.cg_keys.specs.Values.{Level, members_of, object_level, or_empty}
 use Rattle.cg_blkread.specs.Described.{block_of}
 use Rattle.cg_blkread.specs.Keys.{key_faults}
 use Rattle.cg_blkread.specs.Raw.{text_or_empty}
-use Rattle.cg_blkread.specs.Reads.{Violates, value_faults}
+use Rattle.cg_blkread.specs.Reads.{Violates}
+use Rattle.cg_blkread.proofs.Facts.Listed.{nothing_listed}
 use Rattle.cg_blkread.proofs.Sound.Empty.{empty_parts}
 use Rattle.cg_blkread.proofs.Sound.Keys.{block_name}
 use Rattle.cg_jsonspec.specs.Layout.{layout_text}
@@ -39,14 +40,9 @@ use Rattle.cg_done.proofs.Kept.{seen, viewed}
 
 -- ---- nothing is broken
 
--- where no finding is among those of the least phase, none is in the first
-none_first : (early late : List Finding) → ((f : Finding) → In f (of_least_phase early late) → ⊥) → early ≡ []
-none_first [] late h = refl
-none_first (f ∷ fs) late h = absurd (h f (inl refl))
-
 -- no rule on keys is broken
 pub keys_good : (t : Tree) → ((f : Finding) → Violates t f → ⊥) → key_faults t ≡ []
-keys_good t h = none_first (key_faults t) (value_faults t) h
+keys_good t h = (nothing_listed t h).0
 
 -- ---- keys
 

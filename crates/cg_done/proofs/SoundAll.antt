@@ -5,7 +5,7 @@ use Rattle.std.specs.List.{list_all}
 use Rattle.std.specs.Option.{option_map_or}
 use Rattle.serde_json.specs.Data.{Data}
 use Rattle.serde_json.specs.Find.{as_array, get}
-use Rattle.cg_finding.specs.Finding.{Finding, In, of_least_phase}
+use Rattle.cg_finding.specs.Finding.{Finding}
 use Rattle.cg_hjson.specs.Json.{KeysDiffer}
 use Rattle.cg_hjson.specs.Views.{tree_of}
 use Rattle.cg_hjson.specs.declared.tree.Tree.{Tree}
@@ -19,6 +19,7 @@ use Rattle.cg_blkread.specs.Interfaces.{EntryList, devices, lists_in}
 use Rattle.cg_blkread.specs.Keys.{key_faults, outside_key, width_outside}
 use Rattle.cg_blkread.specs.Raw.{Parameter, parameter_of, parameters}
 use Rattle.cg_blkread.specs.Reads.{Violates, value_faults}
+use Rattle.cg_blkread.proofs.Facts.Listed.{nothing_broken, nothing_listed}
 use Rattle.cg_blkread.specs.Tables.{block_keys}
 use Rattle.cg_blkread.proofs.Sound.Empty.{empty_parts}
 use Rattle.cg_done.specs.Completed.{CompletedIsSound, IsReadBlock, Says}
@@ -48,21 +49,8 @@ record NoneFound (t : Tree) : Type 0 where
   keys : is_none (key_faults t) ≡ true
   values : is_none (value_faults t) ≡ true
 
-none_among : (fs : List Finding) → ((f : Finding) → In f fs → ⊥) → is_none fs ≡ true
-none_among [] none = refl
-none_among (f ∷ fs) none = absurd (none f (inl refl))
-
-none_of_both_phases : (ks vs : List Finding) → ((f : Finding) → In f (of_least_phase ks vs) → ⊥) → (is_none ks ≡ true) × (is_none vs ≡ true)
-none_of_both_phases [] vs none = (refl, none_among vs none)
-none_of_both_phases (k ∷ ks) vs none = absurd (none k (inl refl))
-
 none_found : (t : Tree) → ((f : Finding) → ¬ Violates t f) → NoneFound t
-none_found t sound = let both = none_of_both_phases (key_faults t) (value_faults t) sound in record { keys = both.0; values = both.1 }
-
-no_finding : (ks vs : List Finding) (f : Finding) → is_none ks ≡ true → is_none vs ≡ true → In f (of_least_phase ks vs) → ⊥
-no_finding [] [] f keys values among = among
-no_finding [] (v ∷ vs) f keys values among = absurd cc
-no_finding (k ∷ ks) vs f keys values among = absurd cc
+none_found t sound = let both = nothing_listed t sound in record { keys = ap is_none both.0; values = ap is_none both.1 }
 
 -- ---- the registers of a block
 
@@ -256,4 +244,4 @@ completed_none t u read says =
 
 -- it breaks no rule
 pub completed_sound : CompletedIsSound
-completed_sound t u read says f = let none = completed_none t u read says in no_finding (key_faults u) (value_faults u) f none.keys none.values
+completed_sound t u read says f = let none = completed_none t u read says in nothing_broken u (none_is_empty (key_faults u) none.keys) (none_is_empty (value_faults u) none.values) f

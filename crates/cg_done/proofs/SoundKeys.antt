@@ -2,29 +2,22 @@
 use Rattle.std.proofs.Common.{◌≡◌, ℕ, Bool, true, false, ◌||◌, cond, List, [], ◌∷◌, ◌++◌, bytes_eq, inl, refl}
 use Rattle.std.specs.List.{AllByRecursion, IsDistinct}
 use Rattle.cg_docspec.specs.Tree as document
-use Rattle.cg_finding.specs.Finding.{Finding, In, finding, of_least_phase}
+use Rattle.cg_finding.specs.Finding.{Finding, finding}
 use Rattle.cg_finding.proofs.Members.{in_left}
 use Rattle.cg_hjson.specs.Json.{Everywhere, HasKeysOnce, InMembers, InTrees, KeysDiffer, WithinKind, keys}
 use Rattle.cg_hjson.specs.Views.{tree_of}
 use Rattle.cg_hjson.specs.declared.tree.Tree.{Tree}
 use Rattle.cg_keys.specs.Duplicates.{at_of, duplicate_faults, is_key_among, kind_repeats, members_repeats, repeats, tree_repeats, trees_repeats}
 use Rattle.cg_blkread.specs.Keys.{key_faults}
-use Rattle.cg_blkread.specs.Reads.{Violates, value_faults}
+use Rattle.cg_blkread.specs.Reads.{Violates}
+use Rattle.cg_blkread.proofs.Facts.Listed.{nothing_listed}
 use Rattle.cg_blkread.proofs.Sound.Empty.{empty_parts, empty_when}
 
 -- ---- no finding
 
-in_least : (f : Finding) (xs ys : List Finding) → In f xs → In f (of_least_phase xs ys)
-in_least f [] ys among = absurd among
-in_least f (x ∷ xs) ys among = among
-
-none_among : (xs : List Finding) → ((f : Finding) → In f xs → ⊥) → xs ≡ []
-none_among [] none = refl
-none_among (x ∷ xs) none = absurd (none x (inl refl))
-
 no_repeats : (t : Tree) → ((f : Finding) → ¬ Violates t f) → tree_repeats (tree_of t) ≡ []
 unfolding key_faults duplicate_faults
-no_repeats t sound = none_among (tree_repeats (tree_of t)) (λ f among. sound f (in_least f (key_faults t) (value_faults t) (in_left f (tree_repeats (tree_of t)) _ among)))
+no_repeats t sound = (empty_parts (tree_repeats (tree_of t)) _ (nothing_listed t sound).0).0
 
 -- ---- then keys differ
 

@@ -16,7 +16,7 @@ use Rattle.cg_expand.proofs.AutomaticItems.{names_differ}
 use Rattle.cg_expand.proofs.Faces.{Stands, faces_faults, in_front, in_names, in_others, in_own, own_items, stands}
 use Rattle.cg_expand.proofs.FieldNames.{in_items_fields}
 use Rattle.cg_expand.proofs.ItemNames.{in_known_names}
-use Rattle.cg_expand.proofs.Membership.{among_of}
+use Rattle.cg_finding.proofs.Membership.{among_of}
 use Rattle.cg_expand.proofs.Places.{IsBehind, entries_are_behind}
 
 -- the finding is of phase 4 and stands behind a place

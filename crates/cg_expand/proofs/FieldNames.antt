@@ -11,7 +11,7 @@ use Rattle.cg_finding.proofs.Members.{flat_map_has, in_flat_map, in_when, when_h
 use Rattle.cg_expand.specs.Violations.{FieldNameTwice, Named}
 use Rattle.cg_expand.specs.Parts.Faults.{fields_twice}
 use Rattle.cg_expand.specs.Parts.Labels.{field_label, is_earlier, labels_twice, twice_among}
-use Rattle.cg_expand.proofs.Membership.{any_finds, among_of, contains_of, finds_any, in_map, map_has}
+use Rattle.cg_finding.proofs.Membership.{any_finds, among_of, contains_of, finds_any, in_map, map_has}
 
 -- a field has the name of another that stands earlier in the file
 record FieldTwice (fs : List FieldDesc) (f : Finding) : Type 0 where

@@ -10,7 +10,6 @@ pub mod FirstFault
 pub mod ItemNames
 pub mod KnownNames
 pub mod Later
-pub mod Membership
 pub mod Multiregs
 pub mod Places
 pub mod PlainFaults

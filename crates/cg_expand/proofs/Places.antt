@@ -17,7 +17,7 @@ use Rattle.cg_expand.specs.Parts.Copies.{moved}
 use Rattle.cg_expand.specs.Parts.Faults.{entry_behind, fields_of, register_behind}
 use Rattle.cg_expand.specs.Parts.Labels.{field_label, is_behind}
 use Rattle.cg_expand.proofs.Later.{passes}
-use Rattle.cg_expand.proofs.Membership.{in_map, map_has}
+use Rattle.cg_finding.proofs.Membership.{in_map, map_has}
 
 -- ---- what stands in lists that are made of lists
 

@@ -14,7 +14,7 @@ use Rattle.cg_expand.specs.Parts.Names.{names_twice}
 use Rattle.cg_expand.specs.Parts.Sizes.{is_too_large}
 use Rattle.cg_expand.proofs.FieldNames.{in_items_fields, items_fields_have}
 use Rattle.cg_expand.proofs.ItemNames.{names_have, names_only}
-use Rattle.cg_expand.proofs.Membership.{among_of, contains_of}
+use Rattle.cg_finding.proofs.Membership.{among_of, contains_of}
 
 -- what the counts of a block break
 unfoldable pub counts_faults : BlockDesc → List Finding

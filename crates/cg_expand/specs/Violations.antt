@@ -11,7 +11,8 @@ use Rattle.cg_desc.specs.declared.block.Item.TheVariants.{Reg, Window, SkipTo, R
 use Rattle.cg_desc.specs.declared.block.FaceItems.{FaceItems}
 use Rattle.cg_desc.specs.declared.block.BlockDesc.{BlockDesc}
 use Rattle.cg_desc.specs.Items.{items_of_block}
-use Rattle.cg_finding.specs.Finding.{Finding, finding}
+use Rattle.cg_finding.specs.Finding.{Finding}
+use Rattle.cg_finding.specs.Rules as rules
 
 -- ---- names
 
@@ -39,7 +40,7 @@ pub record ItemNameTwice (items : List Item) (f : Finding) : Type 0 where
   pub name : Named
   pub is_name : name_of item ≡ Some name
   pub twice : list_any (has_name name.name) before ≡ true
-  pub says : f ≡ finding 4 34 name.at name.name
+  pub says : f ≡ rules.name_twice name.at name.name
 
 -- a field has the name of one of its register that stands earlier in the file
 pub record FieldNameTwice (items : List Item) (f : Finding) : Type 0 where
@@ -51,7 +52,7 @@ pub record FieldNameTwice (items : List Item) (f : Finding) : Type 0 where
   pub is_earlier : Contains register.fields earlier
   pub before : earlier.at.byte < field.at.byte
   pub alike : str_eq_ignore_ascii_case earlier.name field.name ≡ true
-  pub says : f ≡ finding 4 34 field.at field.name
+  pub says : f ≡ rules.name_twice field.at field.name
 
 -- ---- counts
 
@@ -87,6 +88,6 @@ interrupt_bits b = sum_by (λ i. i.width) b.intrs
 pub data Violates (b : BlockDesc) : Finding → Type 0 where
   item_name_twice : {f : Finding} (face : FaceItems) → Contains (items_of_block b) face → ItemNameTwice face.items f → Violates b f
   field_name_twice : {f : Finding} (face : FaceItems) → Contains (items_of_block b) face → FieldNameTwice face.items f → Violates b f
-  too_many : HasTooMany (items_of_block b) → Violates b (finding 4 38 b.at [])
-  interrupts : 32 < interrupt_bits b → Violates b (finding 4 42 b.intrs_at [])
-  alerts : 32 < length b.alerts → Violates b (finding 4 42 b.alerts_at [])
+  too_many : HasTooMany (items_of_block b) → Violates b (rules.too_many b.at)
+  interrupts : 32 < interrupt_bits b → Violates b (rules.too_many_interrupt_bits b.intrs_at)
+  alerts : 32 < length b.alerts → Violates b (rules.too_many_interrupt_bits b.alerts_at)

@@ -32,12 +32,7 @@ fn too_many_bits<'a>(many: bool, at: At) -> Option<Found<'a>>
     ensures { sees result ≡ first_of (bits_faults many at) }
 {
     if many {
-        Some(Found {
-            phase: 4,
-            rule: 42,
-            at,
-            name: "",
-        })
+        Some(Found::too_many_interrupt_bits(at))
     } else {
         None
     }
@@ -107,12 +102,7 @@ fn first_in_size(block: &BlockDesc, too_large: bool) -> Option<Found<'_>>
     ensures { sees result ≡ first_of (size_faults block.now) }
 {
     if too_large {
-        Some(Found {
-            phase: 4,
-            rule: 38,
-            at: block.at,
-            name: "",
-        })
+        Some(Found::too_many(block.at))
     } else {
         None
     }

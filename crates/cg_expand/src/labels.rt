@@ -93,12 +93,7 @@ impl<'r, L: Labelled> Rule<'r, L> for Twice<'r, L> {
     fn first(&self, item: &'r L) -> Option<Found<'r>> {
         let label = item.label();
         if is_repeat(self.all, label) {
-            Some(Found {
-                phase: 4,
-                rule: 34,
-                at: label.at,
-                name: label.name,
-            })
+            Some(Found::name_twice(label.at, label.name))
         } else {
             None
         }

@@ -56,12 +56,7 @@ impl Names {
         if is_new {
             return Ok(None);
         }
-        Ok(Some(Found {
-            phase: 4,
-            rule: 34,
-            at: label.at,
-            name: label.name,
-        }))
+        Ok(Some(Found::name_twice(label.at, label.name)))
     }
 
     /// Adds an item's name, if it has one, and tells it where it was known.

@@ -1,3 +1,4 @@
 pub mod Firsts
 pub mod Loops
 pub mod Members
+pub mod Membership

@@ -1,30 +1,30 @@
--- What stands in a list of findings that is made of lists.
+-- What stands in a list that is made of lists, as in one of findings.
 use Rattle.std.proofs.Common.{◌≡◌, Bool, true, false, cond, List, [], ◌∷◌, ◌++◌, ◌⊎◌, inl, inr, refl, sym, ap, subst}
 use Rattle.std.proofs.lemmas.List.{append_assoc, append-nil}
 use Rattle.std.specs.List.{flat_map}
 use Rattle.cg_finding.specs.Finding.{Among, Finding, In, each_after}
 
-pub in_either : (f : Finding) (xs ys : List Finding) → In f (xs ++ ys) → In f xs ⊎ In f ys
+pub in_either : {Y : Type 0} (f : Y) (xs ys : List Y) → Among f (xs ++ ys) → Among f xs ⊎ Among f ys
 in_either f [] ys among = inr among
 in_either f (x ∷ xs) ys (inl is) = inl (inl is)
 in_either f (x ∷ xs) ys (inr among) = elim (in_either f xs ys among) [ inl a ↦ inl (inr a) | inr b ↦ inr b ]
 
-pub in_left : (f : Finding) (xs ys : List Finding) → In f xs → In f (xs ++ ys)
+pub in_left : {Y : Type 0} (f : Y) (xs ys : List Y) → Among f xs → Among f (xs ++ ys)
 in_left f [] ys among = absurd among
 in_left f (x ∷ xs) ys (inl is) = inl is
 in_left f (x ∷ xs) ys (inr among) = inr (in_left f xs ys among)
 
-pub in_right : (f : Finding) (xs ys : List Finding) → In f ys → In f (xs ++ ys)
+pub in_right : {Y : Type 0} (f : Y) (xs ys : List Y) → Among f ys → Among f (xs ++ ys)
 in_right f [] ys among = among
 in_right f (x ∷ xs) ys among = inr (in_right f xs ys among)
 
--- the finding is one that an item of the list breaks
-pub record FromOne {X : Type 0} (g : X → List Finding) (xs : List X) (f : Finding) : Type 0 where
+-- it is one of those of an item of the list, as a finding that the item breaks
+pub record FromOne {X Y : Type 0} (g : X → List Y) (xs : List X) (f : Y) : Type 0 where
   pub item : X
   pub among : Among item xs
-  pub found : In f (g item)
+  pub found : Among f (g item)
 
-pub in_flat_map : {X : Type 0} (g : X → List Finding) (xs : List X) (f : Finding) → In f (flat_map g xs) → FromOne g xs f
+pub in_flat_map : {X Y : Type 0} (g : X → List Y) (xs : List X) (f : Y) → Among f (flat_map g xs) → FromOne g xs f
 in_flat_map g [] f among = absurd among
 in_flat_map g (x ∷ xs) f among =
     elim (in_either f (g x) (flat_map g xs) among) [
@@ -32,9 +32,9 @@ in_flat_map g (x ∷ xs) f among =
       | inr later ↦ let one = in_flat_map g xs f later in record { item = one.item; among = inr one.among; found = one.found }
     ]
 
-pub flat_map_has : {X : Type 0} (g : X → List Finding) (xs : List X) (x : X) (f : Finding) → Among x xs → In f (g x) → In f (flat_map g xs)
+pub flat_map_has : {X Y : Type 0} (g : X → List Y) (xs : List X) (x : X) (f : Y) → Among x xs → Among f (g x) → Among f (flat_map g xs)
 flat_map_has g [] x f among found = absurd among
-flat_map_has g (y ∷ ys) x f (inl is) found = in_left f (g y) (flat_map g ys) (subst (λ z. In f (g z)) is found)
+flat_map_has g (y ∷ ys) x f (inl is) found = in_left f (g y) (flat_map g ys) (subst (λ z. Among f (g z)) is found)
 flat_map_has g (y ∷ ys) x f (inr among) found = in_right f (g y) (flat_map g ys) (flat_map_has g ys x f among found)
 
 -- the finding is one that an item breaks together with those before it

@@ -2,3 +2,4 @@ pub mod Finding
 pub mod Found
 pub mod Refusal
 pub mod Violations
+pub mod Rules

@@ -5,13 +5,14 @@
 //! `Rule`, and `refusal` makes the fault that is told. The first is one of the list, and as faults of one file none of the
 //! list is before it in the order of `cg_desc`: phase, byte place, rule, name.
 //!
-//! Which rules there are, and in which phase each is read, the layers above say. Not promised: that memory is found, which
-//! `refusal` alone takes.
+//! Each rule has its constructor of `Found`, as `Found::fields_overlap`, which gives it its phase and its number; when it is
+//! broken the layers above say. Not promised: that memory is found, which `refusal` alone takes.
 #![tactic(auto)]
 
 mod found;
 mod laws;
 mod rule;
+mod rules;
 
 pub use found::{Found, earlier_of, refusal};
 pub use laws::the_first_is_first;

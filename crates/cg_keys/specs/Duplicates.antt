@@ -4,7 +4,8 @@ use Rattle.std.specs.Str.{bytes_eq}
 use Rattle.cg_desc.specs.declared.place.At.{At}
 use Rattle.cg_docspec.specs.Place.{Place}
 use Rattle.cg_docspec.specs.Tree as document
-use Rattle.cg_finding.specs.Finding.{Finding, finding}
+use Rattle.cg_finding.specs.Finding.{Finding}
+use Rattle.cg_finding.specs.Rules as rules
 use Rattle.cg_hjson.specs.Views.{tree_of}
 use Rattle.cg_hjson.specs.declared.tree.Tree.{Tree}
 
@@ -19,7 +20,7 @@ is_key_among (k ∷ ks) key = bytes_eq k key || is_key_among ks key
 
 -- 20: a key that stands before in its object; at the later key
 abbrev pub repeat : List (List ℕ) → List ℕ → Place → List Finding
-repeat before key at = cond (is_key_among before key) (finding 2 20 (at_of at) key ∷ []) []
+repeat before key at = cond (is_key_among before key) (rules.duplicate_key (at_of at) key ∷ []) []
 
 -- the keys of these members that stand before in their object, behind members with the keys `before`
 unfoldable pub repeats : List (List ℕ) → document.Members → List Finding

@@ -2,7 +2,8 @@
 use Rattle.std.specs.Prelude.{ℕ, ◌&&◌, cond, nat_le, length, List, [], ◌∷◌, Option, Some, None}
 use Rattle.std.specs.List.{list_all, flat_map}
 use Rattle.cg_desc.specs.declared.place.At.{At}
-use Rattle.cg_finding.specs.Finding.{Finding, finding}
+use Rattle.cg_finding.specs.Finding.{Finding}
+use Rattle.cg_finding.specs.Rules as rules
 use Rattle.cg_hjson.specs.declared.tree.Tree.{Tree}
 use Rattle.cg_hjson.specs.declared.tree.Member.{Member}
 use Rattle.cg_keys.specs.Values.{object_in, array_in, items_of}
@@ -21,7 +22,7 @@ elements key ms = items_in (value_at key ms)
 
 -- 22: the value is a list, and one of its elements has not this form; once, at the list
 unfoldable pub list_faults : Form → List ℕ → Tree → List Finding
-list_faults form key t = cond (list_all (fits form) (items_of t)) [] (finding 2 22 t.at key ∷ [])
+list_faults form key t = cond (list_all (fits form) (items_of t)) [] (rules.wrong_kind t.at key ∷ [])
 
 abbrev pub in_list : Form → List ℕ → Option Tree → List Finding
 in_list form key None = []
@@ -37,7 +38,7 @@ element_faults key ms = item_faults Object key ms
 
 abbrev pub wrong_length : ℕ → ℕ → List ℕ → Tree → Option (List Tree) → List Finding
 wrong_length least most key t None = []
-wrong_length least most key t (Some ts) = cond (nat_le least (length ts) && nat_le (length ts) most) [] (finding 2 22 t.at key ∷ [])
+wrong_length least most key t (Some ts) = cond (nat_le least (length ts) && nat_le (length ts) most) [] (rules.wrong_kind t.at key ∷ [])
 
 abbrev pub length_wrong : ℕ → ℕ → List ℕ → Option Tree → List Finding
 length_wrong least most key None = []

@@ -4,6 +4,7 @@ use Rattle.std.specs.List.{flat_map}
 use Rattle.std.specs.Str.{bytes_eq}
 use Rattle.cg_desc.specs.declared.place.At.{At}
 use Rattle.cg_finding.specs.Finding.{Finding, finding}
+use Rattle.cg_finding.specs.Rules as rules
 use Rattle.cg_hjson.specs.declared.tree.Tree.{Tree}
 use Rattle.cg_hjson.specs.declared.tree.Member.{Member}
 use Rattle.cg_keys.specs.Forms.{fits_one, rule_broken}
@@ -33,13 +34,17 @@ unfoldable pub value_at : List ℕ → List Member → Option Tree
 value_at key [] = None
 value_at key (m ∷ ms) = cond (bytes_eq m.key key) (Some m.value) (value_at key ms)
 
--- 22, 24 or 25: the value has none of the key's forms; at the value
+-- 22, 24 or 25: a value at this key has none of these forms; at the value
+abbrev pub misfit : List ℕ → List Form → Tree → Finding
+misfit key forms t = finding 2 (rule_broken forms t) t.at key
+
+-- the value has none of the key's forms
 unfoldable pub value_faults : List ℕ → List Form → Tree → List Finding
-value_faults key forms t = cond (fits_one forms t) [] (finding 2 (rule_broken forms t) t.at key ∷ [])
+value_faults key forms t = cond (fits_one forms t) [] (misfit key forms t ∷ [])
 
 -- 21: a needed key is absent; at the object's opener
 abbrev pub at_key : At → Key → Option Tree → List Finding
-at_key opener k None = cond k.needed (finding 2 21 opener k.key ∷ []) []
+at_key opener k None = cond k.needed (rules.missing_key opener k.key ∷ []) []
 at_key opener k (Some t) = value_faults k.key k.forms t
 
 -- what is wrong at one key of an object

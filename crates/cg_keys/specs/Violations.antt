@@ -4,12 +4,13 @@ use Rattle.cg_desc.specs.declared.place.At.{At}
 use Rattle.cg_docspec.specs.Depth.{StandsAt}
 use Rattle.cg_docspec.specs.Place.{Place}
 use Rattle.cg_docspec.specs.Tree as document
-use Rattle.cg_finding.specs.Finding.{Finding, finding, Among}
+use Rattle.cg_finding.specs.Finding.{Finding, Among}
+use Rattle.cg_finding.specs.Rules as rules
 use Rattle.cg_hjson.specs.Views.{tree_of}
 use Rattle.cg_hjson.specs.declared.tree.Tree.{Tree}
 use Rattle.cg_hjson.specs.declared.tree.Member.{Member}
-use Rattle.cg_keys.specs.Forms.{fits_one, rule_broken}
-use Rattle.cg_keys.specs.Table.{Key, value_at}
+use Rattle.cg_keys.specs.Forms.{fits_one}
+use Rattle.cg_keys.specs.Table.{Key, misfit, value_at}
 use Rattle.cg_keys.specs.Duplicates.{at_of}
 
 -- 21: a needed key is absent; at the object's opener
@@ -18,7 +19,7 @@ pub record MissingKey (opener : At) (ms : List Member) (ks : List Key) (f : Find
   pub listed : Among row ks
   pub needed : row.needed ≡ true
   pub absent : value_at row.key ms ≡ None
-  pub says : f ≡ finding 2 21 opener row.key
+  pub says : f ≡ rules.missing_key opener row.key
 
 -- 22, 24, 25: the value at a key has none of the key's forms; at the value
 pub record WrongValue (ms : List Member) (ks : List Key) (f : Finding) : Type 0 where
@@ -27,7 +28,7 @@ pub record WrongValue (ms : List Member) (ks : List Key) (f : Finding) : Type 0 
   pub listed : Among row ks
   pub there : value_at row.key ms ≡ Some value
   pub unfit : fits_one row.forms value ≡ false
-  pub says : f ≡ finding 2 (rule_broken row.forms value) value.at row.key
+  pub says : f ≡ misfit row.key row.forms value
 
 -- an object breaks its table of keys
 abbrev pub BreaksTable : At → List Member → List Key → Finding → Type 0
@@ -44,4 +45,4 @@ pub record DuplicateKey (root : Tree) (f : Finding) : Type 0 where
   pub earlier : document.Member
   pub among : Among earlier before
   pub same : earlier.key ≡ later.key
-  pub says : f ≡ finding 2 20 (at_of later.key_place) later.key
+  pub says : f ≡ rules.duplicate_key (at_of later.key_place) later.key

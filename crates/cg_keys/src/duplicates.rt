@@ -22,12 +22,7 @@ fn repeat_of(is_new: bool, member: &Member) -> Option<Found<'_>>
     if is_new {
         None
     } else {
-        Some(Found {
-            phase: 2,
-            rule: 20,
-            at: member.key_at,
-            name: member.key.as_str(),
-        })
+        Some(Found::duplicate_key(member.key_at, member.key.as_str()))
     }
 }
 

@@ -39,12 +39,7 @@ pub fn first_in_list<'a>(form: Form, key: &'a str, tree: &Tree) -> Option<Found<
     if all_fit(form, items(tree)) {
         None
     } else {
-        Some(Found {
-            phase: 2,
-            rule: 22,
-            at: tree.at,
-            name: key,
-        })
+        Some(Found::wrong_kind(tree.at, key))
     }
 }
 
@@ -78,12 +73,7 @@ pub fn first_in_length<'a>(
     if least <= count && count <= most {
         None
     } else {
-        Some(Found {
-            phase: 2,
-            rule: 22,
-            at: tree.at,
-            name: key,
-        })
+        Some(Found::wrong_kind(tree.at, key))
     }
 }
 

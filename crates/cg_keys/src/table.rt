@@ -57,12 +57,7 @@ fn first_at_key<'a>(opener: At, members: &[Member], row: &Row) -> Option<Found<'
         Some(tree) => first_in_value(row.key, row.forms, tree),
         None => {
             if row.needed {
-                Some(Found {
-                    phase: 2,
-                    rule: 21,
-                    at: opener,
-                    name: row.key,
-                })
+                Some(Found::missing_key(opener, row.key))
             } else {
                 None
             }

@@ -1,5 +1,5 @@
 -- A block that breaks no rule is laid out whole.
-use Rattle.std.proofs.Common.{◌≡◌, ℕ, ◌+◌, ◌-◌, ◌*◌, ◌^◌, ◌<◌, ◌≤◌, Bool, true, false, not, ◌&&◌, cond, List, [], ◌∷◌, ◌⊎◌, inl, inr, Option, Some, None, eqb-true, ◌==◌, refl, sym, ap, subst, ◌∙◌, arith}
+use Rattle.std.proofs.Common.{◌≡◌, ℕ, max, ◌+◌, ◌-◌, ◌*◌, ◌^◌, ◌<◌, ◌≤◌, Bool, true, false, not, ◌&&◌, cond, List, [], ◌∷◌, ◌⊎◌, inl, inr, Option, Some, None, eqb-true, ◌==◌, refl, sym, ap, subst, ◌∙◌, arith}
 use Rattle.std.specs.Int.{IsNextPowerOfTwo}
 use Rattle.std.specs.List.{Contains}
 use Rattle.std.proofs.lemmas.Bool.{cases_lt}
@@ -21,7 +21,7 @@ use Rattle.cg_desc.specs.declared.block.LaidFace.{LaidFace}
 use Rattle.cg_desc.specs.declared.block.LaidBlock.{LaidBlock}
 use Rattle.cg_desc.specs.declared.block.BlockDesc.{BlockDesc}
 use Rattle.cg_desc.specs.Items.{items_of_block}
-use Rattle.cg_desc.specs.Laid.{GateFits, HasRow, IsGateAt, IsLaid, RowFits, RowsFit, WindowFits}
+use Rattle.cg_desc.specs.Laid.{LastEnds, GateFits, HasRow, IsGateAt, IsLaid, RowFits, RowsFit, WindowFits}
 use Rattle.cg_desc.specs.Offsets.{Ends, HasRows, IsLaidOut, IsSpan}
 use Rattle.cg_desc.specs.Valid.{IsValidItem, IsValidRegister, IsValidWindow}
 use Rattle.cg_finding.specs.Finding.{Among, Finding}
@@ -146,18 +146,58 @@ rows_there (HasRows.row s p has) = inl tt
 rows_there (HasRows.skip has) = rows_there has
 rows_there (HasRows.reserved has) = rows_there has
 
+-- ---- sizes
+
+-- the last row ends here, or there is none and this is where the last one before ended
+abbrev EndsAfter : ℕ → List LaidRow → ℕ → Type 0
+EndsAfter top [] end = end ≡ top
+EndsAfter top (row ∷ rows) end = LastEnds (row ∷ rows) end
+
+-- the last of a row and those behind it
+last_of : {span end : ℕ} (row : LaidRow) (rows : List LaidRow) → IsSpan row.item span → EndsAfter (row.first + span) rows end → LastEnds (row ∷ rows) end
+last_of row [] span is = subst (LastEnds (row ∷ [])) (sym is) (LastEnds.last span)
+last_of row (next ∷ rows) span ends = LastEnds.later ends
+
+rows_end : {low top end : ℕ} {items : List Item} {rows : List LaidRow} → HasRows low top items rows end → EndsAfter top rows end
+rows_end HasRows.none = refl
+rows_end (HasRows.row {first} {item} {rows} s p has) = last_of (row_of first item) rows s (rows_end has)
+rows_end (HasRows.skip has) = rows_end has
+rows_end (HasRows.reserved has) = rows_end has
+
+last_ends : {end : ℕ} (rows : List LaidRow) → HasRow rows → EndsAfter 0 rows end → LastEnds rows end
+last_ends [] some ends = absurd some
+last_ends (row ∷ rows) some ends = ends
+
+-- where items break nothing, the last row ends within the limit
+end_within : {low top end : ℕ} {items : List Item} {rows : List LaidRow} → HasRows low top items rows end → top ≤ end_limit → IsUnbroken low items → end ≤ end_limit
+end_within HasRows.none within unbroken = within
+end_within (HasRows.row s p has) within unbroken =
+    let ends = Ends.row s p in end_within has (unbroken_within unbroken ends) (unbroken_rest unbroken ends)
+end_within (HasRows.skip has) within unbroken = end_within has within (unbroken_rest unbroken Ends.skip)
+end_within (HasRows.reserved has) within unbroken = end_within has within (unbroken_rest unbroken Ends.reserved)
+
+size_within : (end size : ℕ) → IsNextPowerOfTwo (max end 4) size → end ≤ end_limit → size ≤ 2 ^ 24
+size_within end size is within = power_within (max end 4) size 24 is (omega arith)
+
 -- ---- interfaces
 
 -- an interface that breaks nothing is whole
 face_laid : (face : FaceDesc) (items : List Item) (l : LaidFace) → IsGood face items → AllOf IsValidItem items → IsLaidOut items l → IsLaid l
-face_laid face items l good valid is = record {
-  some_row = elim (rows_there is.rows) [
-    | inl row ↦ row
-    | inr none ↦ absurd (good _ (BreaksIn.no_row (row_missing items none)))
-  ];
-  rows = rows_fit l.rows 0 is.rows (omega arith) (omega arith) (λ f breaks. good f (BreaksIn.offsets breaks)) valid
-      (λ r among. gate_fits face items good r (contains items (Reg r) among) r.regwen refl is.rows);
-}
+face_laid face items l good valid is =
+    let unbroken : IsUnbroken 0 items = λ f breaks. good f (BreaksIn.offsets breaks) in
+    let some : HasRow l.rows = elim (rows_there is.rows) [
+      | inl row ↦ row
+      | inr none ↦ absurd (good _ (BreaksIn.no_row (row_missing items none)))
+    ] in
+    record {
+      some_row = some;
+      rows = rows_fit l.rows 0 is.rows (omega arith) (omega arith) unbroken valid
+          (λ r among. gate_fits face items good r (contains items (Reg r) among) r.regwen refl is.rows);
+      end = is.end;
+      ends = last_ends l.rows some (rows_end is.rows);
+      size = is.size;
+      few_bytes = size_within is.end l.size is.size (end_within is.rows (omega arith) unbroken);
+    }
 
 -- so are several
 all_laid : (faces : List FaceDesc) (items : List FaceItems) (laid : List LaidFace) → AreUnbroken faces items → AreValid items → AreLaidOut faces items laid

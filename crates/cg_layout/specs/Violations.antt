@@ -11,7 +11,8 @@ use Rattle.cg_desc.specs.declared.block.BlockDesc.{BlockDesc}
 use Rattle.cg_desc.specs.Gates.{is_gate, register_among}
 use Rattle.cg_desc.specs.Items.{items_of_block}
 use Rattle.cg_desc.specs.Offsets.{Ends}
-use Rattle.cg_finding.specs.Finding.{Finding, finding}
+use Rattle.cg_finding.specs.Finding.{Finding}
+use Rattle.cg_finding.specs.Rules as rules
 
 -- ---- offsets
 
@@ -39,9 +40,9 @@ IsSkipBack low item = ⊥
 -- The first item, behind what ends at `low`, that skips back or ends past the limit. Nothing is looked for behind it.
 pub data BreaksOffsets : ℕ → List Item → Finding → Type 0 where
   back : {low : ℕ} {item : Item} {items : List Item} → IsSkipBack low item
-      → BreaksOffsets low (item ∷ items) (finding 5 39 (place_of item) [])
+      → BreaksOffsets low (item ∷ items) (rules.skip_back (place_of item))
   past : {low end : ℕ} {item : Item} {items : List Item} → ¬ IsSkipBack low item → Ends low item end → end_limit < end
-      → BreaksOffsets low (item ∷ items) (finding 5 41 (place_of item) (own_name item))
+      → BreaksOffsets low (item ∷ items) (rules.past_the_end (place_of item) (own_name item))
   later : {low end : ℕ} {item : Item} {items : List Item} {f : Finding} → ¬ IsSkipBack low item → Ends low item end → end ≤ end_limit
       → BreaksOffsets end items f → BreaksOffsets low (item ∷ items) f
 
@@ -63,11 +64,11 @@ name_or_empty (Some name) = name
 
 -- what one interface breaks
 pub data BreaksIn (face : FaceDesc) (items : List Item) : Finding → Type 0 where
-  no_row : HasNoRow items → BreaksIn face items (finding 5 33 face.at (name_or_empty face.name))
+  no_row : HasNoRow items → BreaksIn face items (rules.no_items face.at (name_or_empty face.name))
   unknown_regwen : {name : List ℕ} (r : RegDesc) → Contains items (Reg r) → r.regwen ≡ Some name → register_among items name ≡ None
-      → BreaksIn face items (finding 5 35 r.regwen_at name)
+      → BreaksIn face items (rules.unknown_gate r.regwen_at name)
   bad_regwen : {name : List ℕ} (r gate : RegDesc) → Contains items (Reg r) → r.regwen ≡ Some name → register_among items name ≡ Some gate
-      → is_gate gate ≡ false → BreaksIn face items (finding 5 36 r.regwen_at name)
+      → is_gate gate ≡ false → BreaksIn face items (rules.bad_gate r.regwen_at name)
   offsets : {f : Finding} → BreaksOffsets 0 items f → BreaksIn face items f
 
 -- what a block breaks of these rules

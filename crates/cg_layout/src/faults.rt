@@ -36,12 +36,7 @@ fn first_without_row<'r>(face: &'r FaceDesc, items: &'r [Item]) -> Option<Found<
     if has_row(items) {
         return None;
     }
-    Some(Found {
-        phase: 5,
-        rule: 33,
-        at: face.at,
-        name: name_or_empty(&face.name),
-    })
+    Some(Found::no_items(face.at, name_or_empty(&face.name)))
 }
 
 /// The first item that skips back or ends past the limit; nothing is looked for behind it.
@@ -52,21 +47,11 @@ fn first_in_offsets<'r>(items: &'r [Item]) -> Option<Found<'r>>
     let mut low = 0;
     for item in items {
         if is_skip_back(low, item) {
-            return Some(Found {
-                phase: 5,
-                rule: 39,
-                at: place_of(item),
-                name: "",
-            });
+            return Some(Found::skip_back(place_of(item)));
         }
         low = extent_of(low, item).end;
         if low > END_LIMIT {
-            return Some(Found {
-                phase: 5,
-                rule: 41,
-                at: place_of(item),
-                name: own_name(item),
-            });
+            return Some(Found::past_the_end(place_of(item), own_name(item)));
         }
     }
     None

@@ -75,19 +75,15 @@ impl<'r> GateRule<'r> {
     fn first_of_gate(&self, register: &'r RegDesc, name: &'r str) -> Option<Found<'r>>
         ensures { sees result ≡ first_of (faults_of_gate register.now name.now (register_among self.now.items.now name.now)) }
     {
-        let (rule, is_broken) = match register_among(self.items, name) {
-            None => (35, true),
-            Some(gate) => (36, !is_gate(gate)),
-        };
-        if is_broken {
-            Some(Found {
-                phase: 5,
-                rule,
-                at: register.regwen_at,
-                name,
-            })
-        } else {
-            None
+        match register_among(self.items, name) {
+            None => Some(Found::unknown_gate(register.regwen_at, name)),
+            Some(gate) => {
+                if is_gate(gate) {
+                    None
+                } else {
+                    Some(Found::bad_gate(register.regwen_at, name))
+                }
+            }
         }
     }
 }

@@ -25,10 +25,11 @@ use Rattle.cg_blkread.specs.Keys.{key_faults}
 use Rattle.cg_blkread.specs.Raw.{Parameter, number_or_zero, parameters, raw_entry, raw_multireg, raw_register, raw_window}
 use Rattle.cg_blkread.specs.Reads.{value_faults}
 use Rattle.cg_blkread.specs.Reads.{Violates as BreaksKeysOrValues}
+use Rattle.cg_blkread.proofs.Facts.Listed.{nothing_listed}
 use Rattle.cg_blkread.specs.declared.raw.RawEntry.TheVariants as entry
 use Rattle.cg_blkread.proofs.Sound.Block.{valid_block}
 use Rattle.cg_expand.specs.Violations.{Violates as BreaksNamesOrCounts, field_name_twice}
-use Rattle.cg_expand.proofs.Membership.{contains_of}
+use Rattle.cg_finding.proofs.Membership.{contains_of}
 use Rattle.cg_samespec.specs.Laws.{ReadFieldsAreApart}
 use Rattle.cg_samespec.specs.Same.{ItemIsApart}
 use Rattle.cg_samespec.proofs.ApartTrees.{Stands, document_stands}
@@ -172,18 +173,10 @@ some_faces_differ b (face ∷ faces) there none placed =
 
 -- ---- a block that breaks no rule on keys and values
 
-none_first : (fs : List Finding) → ((f : Finding) → ¬ In f fs) → fs ≡ []
-none_first [] none = refl
-none_first (f ∷ fs) none = absurd (none f (inl refl))
-
-both_empty : (xs ys : List Finding) → of_least_phase xs ys ≡ [] → (xs ≡ []) × (ys ≡ [])
-both_empty [] ys e = (refl, e)
-both_empty (x ∷ xs) ys e = absurd cc
-
 sound_is_valid : (file : ℕ) (t : Tree) → ((f : Finding) → ¬ BreaksKeysOrValues t f) → IsValidBlock (block_of file t)
 unfolding first_of
 sound_is_valid file t none =
-    let empty = both_empty (key_faults t) (value_faults t) (none_first (of_least_phase (key_faults t) (value_faults t)) none) in
+    let empty = nothing_listed t none in
     valid_block file t (ap first_of empty.0) (ap first_of empty.1)
 
 -- no two fields of a register have one name

@@ -11,7 +11,7 @@ use Rattle.cg_desc.specs.declared.block.Item.TheVariants.{Reg, Window, SkipTo, R
 use Rattle.cg_desc.specs.declared.block.RegDesc.{RegDesc}
 use Rattle.cg_finding.specs.Finding.{Among, Finding, finding}
 use Rattle.cg_expand.specs.Violations.{FieldNameTwice}
-use Rattle.cg_expand.proofs.Membership.{contains_of}
+use Rattle.cg_finding.proofs.Membership.{contains_of}
 use Rattle.cg_samespec.specs.Same.{ItemIsApart, NamesApart}
 use Rattle.cg_samespec.proofs.ApartFields.{Differ, PlacesApart}
 

@@ -10,8 +10,9 @@ use Rattle.cg_blkread.specs.Interfaces.{devices, interface_name}
 use Rattle.cg_blkread.specs.Keys.{key_faults}
 use Rattle.cg_blkread.specs.Reads.{value_faults}
 use Rattle.cg_blkread.proofs.Sound.Empty.{all_from}
-use Rattle.cg_blkread.proofs.Sound.Keys.{alerts_valid, block_name, entry_names, face_names, faces_differ, few_faces, interrupts_valid}
+use Rattle.cg_blkread.proofs.Sound.Keys.{alerts_valid, block_name, entry_names, face_names, faces_differ, few_faces, interrupts_valid, short_alerts, short_block_name, short_interrupts}
 use Rattle.cg_blkread.proofs.Sound.Objects.{all_mapped}
+use Rattle.cg_blkread.proofs.Sound.Ports.{clocks_valid, few_clocks, hosts_differ, hosts_valid, pins_valid, short_faces, some_clock}
 use Rattle.cg_blkread.proofs.Sound.Values.{valid_interface_entries}
 
 -- an interface with a good name, in whose entries nothing is found
@@ -37,4 +38,14 @@ valid_block file t no_key no_value =
           (λ d name. valid_interface t d keys values name) (face_names t keys));
       interfaces_differ = faces_differ file t keys;
       few_interfaces = few_faces file t keys;
+      short_name = short_block_name file t keys;
+      clocks = clocks_valid file t keys;
+      some_clock = some_clock file t keys;
+      few_clocks = few_clocks file t keys;
+      short_interrupts = short_interrupts file t keys;
+      short_alerts = short_alerts file t keys;
+      short_interfaces = short_faces file t keys;
+      hosts = hosts_valid file t keys;
+      hosts_differ = hosts_differ file t keys;
+      pins = pins_valid file t keys;
     }

@@ -1,5 +1,5 @@
 -- Entries of which nothing is found have valid descriptions.
-use Rattle.std.proofs.Common.{ℕ, ◌≡◌, ◌<◌, ◌≤◌, suc, Bool, true, false, ◌==◌, nat_le, nat_lt, is_some, List, [], ◌∷◌, map, length, codes, Option, Some, None, arith, if◌then◌else◌}
+use Rattle.std.proofs.Common.{ℕ, ◌≡◌, ◌<◌, ◌≤◌, suc, Bool, true, false, not, ◌==◌, nat_le, nat_lt, is_some, List, [], ◌∷◌, map, length, codes, Option, Some, None, refl, arith, if◌then◌else◌}
 use Rattle.std.proofs.lemmas.Bool.{and_parts, eqb-true}
 use Rattle.std.proofs.lemmas.Bool.Decides.{nat_tests}
 use Rattle.std.specs.Bool.{⊤}
@@ -19,7 +19,7 @@ use Rattle.cg_keys.specs.Lookups.{text_at, window_access_at}
 use Rattle.cg_keys.specs.Table.{value_at}
 use Rattle.cg_keys.specs.Values.{members_of}
 use Rattle.cg_blkread.specs.Described.{field_desc, in_bit_order, put_field, register_desc, written_entry}
-use Rattle.cg_blkread.specs.Raw.{Parameter, Shared, is_compact, number_or_zero, raw_entry, raw_fields, raw_multireg, raw_register, raw_window, shared_of}
+use Rattle.cg_blkread.specs.Raw.{Parameter, Shared, is_compact, is_true, number_or_zero, raw_entry, raw_fields, raw_multireg, raw_register, raw_window, shared_of}
 use Rattle.cg_blkread.specs.Values.{bad_bits, entry_values, is_count_to, no_fields, overlap, register_values, wide_reset}
 use Rattle.cg_blkread.specs.declared.raw.Bits.{Bits}
 use Rattle.cg_blkread.specs.declared.raw.RawField.{RawField}
@@ -91,6 +91,14 @@ compact_has_one : (t : Tree) → is_compact (members_of t) ≡ true → HasOneFi
 unfolding is_compact register_desc raw_register
 compact_has_one t h = one_field _ (shared_of (members_of t)) 1 (elements (codes "fields") (members_of t)) (and_parts _ _ h).0
 
+not_true : (b : Bool) → not b ≡ true → b ≡ false
+not_true true h = cc
+not_true false h = refl
+
+compact_has_no_gates : (t : Tree) → is_compact (members_of t) ≡ true → is_true (codes "regwen_multi") (members_of t) ≡ false
+unfolding is_compact
+compact_has_no_gates t h = not_true _ (and_parts _ _ (and_parts _ _ h).1).0
+
 valid_multireg : (ps : List Parameter) (t : Tree) → RegisterWords t → entry_values (entry.Multireg (raw_multireg ps t)) ≡ []
     → IsValidEntry (written_entry (entry.Multireg (raw_multireg ps t)))
 unfolding entry_values written_entry raw_multireg
@@ -102,6 +110,7 @@ valid_multireg ps t words h =
       some_copy = count.0;
       few_copies = count.1;
       sole = compact_has_one t;
+      one_gate = compact_has_no_gates t;
     }
 
 -- ---- windows

@@ -1,15 +1,16 @@
 -- The device interfaces where nothing is found: at most eight, each of a good name if any, no two of one.
 use Rattle.std.proofs.Common.{◌≡◌, ℕ, ◌≤◌, Bool, true, false, ◌&&◌, ◌||◌, cond, codes, is_some, length, List, [], ◌∷◌, map, Option, Some, None, refl, sym, ap, ◌∙◌}
 use Rattle.std.specs.Prelude.{nat_lt}
-use Rattle.std.specs.List.{list_any, list_all}
+use Rattle.std.specs.List.{filter, list_any, list_all}
 use Rattle.std.specs.Option.{option_map_or}
 use Rattle.std.specs.Cmp.Lexicographic.{nat_list_eq_equiv}
 use Rattle.std.proofs.lemmas.Bool.{both_ways, ltb-false}
 use Rattle.std.proofs.lemmas.List.{length-map}
 use Rattle.cg_svspec.specs.Printable.{AllOf}
 use Rattle.cg_svspec.proofs.Runs.{or_false_left, or_false_right}
-use Rattle.cg_desc.specs.Valid.{InterfacesDiffer, IsNameIfAny}
+use Rattle.cg_desc.specs.Valid.{HostsDiffer, InterfacesDiffer, IsNameIfAny, IsShortNameIfAny}
 use Rattle.cg_desc.specs.declared.block.FaceDesc.{FaceDesc}
+use Rattle.cg_desc.specs.declared.block.HostFace.{HostFace}
 use Rattle.cg_finding.specs.Finding.{finding}
 use Rattle.cg_hjson.specs.declared.tree.Tree.{Tree}
 use Rattle.cg_hjson.specs.declared.tree.Member.{Member}
@@ -25,8 +26,12 @@ use Rattle.cg_blkread.specs.Interfaces.{devices, equal_names, has_same_names, ho
 use Rattle.cg_blkread.specs.Keys.{objects_faults}
 use Rattle.cg_blkread.specs.Tables.{interface_keys}
 use Rattle.cg_blkread.proofs.Sound.Empty.{all_both, all_from, empty_parts, empty_when, none_passes}
-use Rattle.cg_blkread.proofs.Sound.Forms.{needed_fits, needed_there, possible_fits, possible_name}
+use Rattle.cg_blkread.proofs.Sound.Forms.{needed_fits, needed_there, is_named, possible_fits, possible_short_name}
 use Rattle.cg_blkread.proofs.Sound.Objects.{all_filtered, all_fit, listed_objects, listed_tables}
+
+-- a host interface, with its name
+abbrev pub host_of : Tree → HostFace
+host_of t = record { name = interface_name t }
 
 -- ---- each interface
 
@@ -35,7 +40,7 @@ record IsWell (t : Tree) : Type 0 where
   there : is_some (value_at (codes "direction") (members_of t)) ≡ true
   direction : is_fit_at (Word Direction ∷ []) (codes "direction") (members_of t) ≡ true
   fit : is_fit_at (Name ∷ []) (codes "name") (members_of t) ≡ true
-  name : IsNameIfAny (interface_name t)
+  name : IsShortNameIfAny (interface_name t)
 
 well : (t : Tree) → table_faults t.at (members_of t) interface_keys ≡ [] → IsWell t
 well t h =
@@ -46,7 +51,7 @@ well t h =
       there = needed_there t.at (members_of t) (codes "direction") (Word Direction ∷ []) second.0;
       direction = needed_fits t.at (members_of t) (codes "direction") (Word Direction ∷ []) second.0;
       fit = possible_fits t.at (members_of t) (codes "name") (Name ∷ []) third.0;
-      name = possible_name t.at (members_of t) (codes "name") third.0;
+      name = possible_short_name t.at (members_of t) (codes "name") third.0;
     }
 
 all_well : (ms : List Member) → objects_faults (codes "bus_interfaces") interface_keys ms ≡ [] → AllOf IsWell (interfaces ms)
@@ -55,12 +60,18 @@ all_well ms h =
     all_from (λ t. table_faults t.at (members_of t) interface_keys ≡ []) IsWell (elements (codes "bus_interfaces") ms) (λ t table. well t table)
     (listed_tables (codes "bus_interfaces") interface_keys ms h)
 
--- each device interface has a good name, if any
+-- each interface of a direction has a good name, if any
+pub short_names : (ms : List Member) (test : Tree → Bool) → objects_faults (codes "bus_interfaces") interface_keys ms ≡ []
+    → AllOf (λ t. IsShortNameIfAny (interface_name t)) (filter test (interfaces ms))
+short_names ms test h =
+    all_filtered (λ t. IsShortNameIfAny (interface_name t)) test (interfaces ms)
+    (all_from IsWell (λ t. IsShortNameIfAny (interface_name t)) (interfaces ms) (λ t is. is.name) (all_well ms h))
+
 pub names_if_any : (ms : List Member) → objects_faults (codes "bus_interfaces") interface_keys ms ≡ [] → AllOf (λ t. IsNameIfAny (interface_name t)) (devices ms)
 unfolding devices
 names_if_any ms h =
-    all_filtered (λ t. IsNameIfAny (interface_name t)) is_device (interfaces ms)
-    (all_from IsWell (λ t. IsNameIfAny (interface_name t)) (interfaces ms) (λ t is. is.name) (all_well ms h))
+    all_from (λ t. IsShortNameIfAny (interface_name t)) (λ t. IsNameIfAny (interface_name t)) (filter is_device (interfaces ms)) (λ t is. is_named (interface_name t) is)
+    (short_names ms is_device h)
 
 -- ---- all interfaces
 
@@ -132,4 +143,26 @@ unfolding equal_names
 names_apart ms there h =
     all_differ ms (devices ms)
     (or_false_left (has_same_names (devices ms)) (has_same_names (hosts ms))
+    (told_not (has_same_names (devices ms) || has_same_names (hosts ms)) (value_at (codes "bus_interfaces") ms) there h))
+
+-- so do hosts
+hosts_apart_from : (t : Tree) (us : List Tree) → AllOf (λ u. same_name (interface_name t) (interface_name u) ≡ false) us
+    → AllOf (λ (h : HostFace). ¬ (interface_name t ≡ h.name)) (map host_of us)
+hosts_apart_from t [] none = tt
+hosts_apart_from t (u ∷ us) none = (names_differ (interface_name t) (interface_name u) none.0, hosts_apart_from t us none.1)
+
+hosts_differ : (ts : List Tree) → has_same_names ts ≡ false → HostsDiffer (map host_of ts)
+unfolding has_same_names
+hosts_differ [] h = tt
+hosts_differ (t ∷ ts) h =
+    let same : Bool = list_any (λ u. same_name (interface_name t) (interface_name u)) ts in (
+      hosts_apart_from t ts (none_passes (λ u. same_name (interface_name t) (interface_name u)) ts (or_false_left same (has_same_names ts) h)),
+      hosts_differ ts (or_false_right same (has_same_names ts) h),
+    )
+
+pub hosts_apart : (ms : List Member) → is_some (value_at (codes "bus_interfaces") ms) ≡ true → equal_names ms ≡ [] → HostsDiffer (map host_of (hosts ms))
+unfolding equal_names
+hosts_apart ms there h =
+    hosts_differ (hosts ms)
+    (or_false_right (has_same_names (devices ms)) (has_same_names (hosts ms))
     (told_not (has_same_names (devices ms) || has_same_names (hosts ms)) (value_at (codes "bus_interfaces") ms) there h))

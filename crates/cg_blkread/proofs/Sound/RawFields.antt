@@ -110,7 +110,7 @@ pub record Written (f : RawField) : Type 0 where
   pub name : IsWord f.name
   pub bits : GoodIfAny f.bits
 
-bits_if_any : (o : Option Tree) → GoodIfAny (option_and_then bits_in o)
+pub bits_if_any : (o : Option Tree) → GoodIfAny (option_and_then bits_in o)
 bits_if_any None = tt
 bits_if_any (Some t) = by (bits_in t) refl where
   by : (o : Option Bits) → bits_in t ≡ o → GoodIfAny o

@@ -11,7 +11,8 @@ use Rattle.cg_desc.specs.declared.block.Item.TheVariants.{Reg, Window, SkipTo, R
 use Rattle.cg_desc.specs.declared.block.FaceItems.{FaceItems}
 use Rattle.cg_desc.specs.declared.block.BlockDesc.{BlockDesc}
 use Rattle.cg_desc.specs.Items.{has_some, items_of_block, items_of_faces}
-use Rattle.cg_finding.specs.Finding.{Finding, finding}
+use Rattle.cg_finding.specs.Finding.{Finding}
+use Rattle.cg_finding.specs.Rules as rules
 use Rattle.cg_expand.specs.Violations.{Named, interrupt_bits}
 use Rattle.cg_expand.specs.Parts.Automatic.{automatic_with, has_room}
 use Rattle.cg_expand.specs.Parts.Labels.{alert_label, field_label, interrupt_label, is_behind, labels_twice}
@@ -22,7 +23,7 @@ use Rattle.cg_expand.specs.Parts.Sizes.{is_too_large}
 
 -- a list with too many bits
 unfoldable pub bits_faults : Bool → At → List Finding
-bits_faults many at = cond many (finding 4 42 at [] ∷ []) []
+bits_faults many at = cond many (rules.too_many_interrupt_bits at ∷ []) []
 
 -- the same, and the names of what stands in it where its register is there
 unfoldable pub list_faults : Bool → At → Bool → List Named → List Finding
@@ -36,7 +37,7 @@ alert_faults b = list_faults (nat_lt 32 (length b.alerts)) b.alerts_at (has_some
 
 -- too many rows or fields
 unfoldable pub size_faults : BlockDesc → List Finding
-size_faults b = cond (is_too_large (items_of_block b)) (finding 4 38 b.at [] ∷ []) []
+size_faults b = cond (is_too_large (items_of_block b)) (rules.too_many b.at ∷ []) []
 
 -- what is found without making an item
 unfoldable pub early_faults : BlockDesc → List Finding

@@ -6,7 +6,8 @@ use Rattle.cg_desc.specs.declared.place.At.{At}
 use Rattle.cg_desc.specs.declared.block.FieldDesc.{FieldDesc}
 use Rattle.cg_desc.specs.declared.block.IntrDesc.{IntrDesc}
 use Rattle.cg_desc.specs.declared.block.AlertDesc.{AlertDesc}
-use Rattle.cg_finding.specs.Finding.{Finding, finding}
+use Rattle.cg_finding.specs.Finding.{Finding}
+use Rattle.cg_finding.specs.Rules as rules
 use Rattle.cg_expand.specs.Violations.{Named}
 use Rattle.cg_expand.specs.declared.labels.Label.{Label}
 
@@ -34,7 +35,7 @@ is_behind at l = nat_lt at.byte l.at.byte
 
 -- what a label breaks among these
 unfoldable pub twice_among : List Named → Named → List Finding
-twice_among ls l = cond (list_any (is_earlier l) ls) (finding 4 34 l.at l.name ∷ []) []
+twice_among ls l = cond (list_any (is_earlier l) ls) (rules.name_twice l.at l.name ∷ []) []
 
 -- what these labels break
 unfoldable pub labels_twice : List Named → List Finding

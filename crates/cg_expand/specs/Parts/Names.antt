@@ -4,7 +4,8 @@ use Rattle.std.specs.HashSet.{contains_text}
 use Rattle.std.specs.Option.{option_map_or}
 use Rattle.std.specs.Str.{str_to_ascii_lowercase}
 use Rattle.cg_desc.specs.declared.block.Item.{Item}
-use Rattle.cg_finding.specs.Finding.{Finding, finding}
+use Rattle.cg_finding.specs.Finding.{Finding}
+use Rattle.cg_finding.specs.Rules as rules
 use Rattle.cg_expand.specs.Violations.{Named, has_name, name_of}
 use Rattle.cg_expand.specs.declared.names.Names.{Names}
 
@@ -18,7 +19,7 @@ also item known name = has_name name item || known name
 
 -- what a name at its place breaks where these names are known
 unfoldable pub known_twice : (List ℕ → Bool) → Named → List Finding
-known_twice known n = cond (known n.name) (finding 4 34 n.at n.name ∷ []) []
+known_twice known n = cond (known n.name) (rules.name_twice n.at n.name ∷ []) []
 
 -- what an item breaks where these names are known
 abbrev pub item_twice : (List ℕ → Bool) → Item → List Finding

@@ -3,7 +3,8 @@ use Rattle.std.specs.Prelude.{ℕ, Bool, false, ◌||◌, cond, List, [], ◌∷
 use Rattle.cg_desc.specs.declared.block.RegDesc.{RegDesc}
 use Rattle.cg_desc.specs.declared.block.Item.{Item}
 use Rattle.cg_desc.specs.declared.block.Item.TheVariants.{Reg, Window, SkipTo, Reserved}
-use Rattle.cg_finding.specs.Finding.{Finding, finding}
+use Rattle.cg_finding.specs.Finding.{Finding}
+use Rattle.cg_finding.specs.Rules as rules
 use Rattle.cg_desc.specs.Gates.{is_gate, register_among}
 use Rattle.cg_layout.specs.Violations.{is_row}
 
@@ -14,8 +15,8 @@ has_row (item ∷ items) = is_row item || has_row items
 
 -- what a register breaks whose gate has this name, where this register has the name
 unfoldable pub faults_of_gate : RegDesc → List ℕ → Option RegDesc → List Finding
-faults_of_gate r name None = finding 5 35 r.regwen_at name ∷ []
-faults_of_gate r name (Some gate) = cond (is_gate gate) [] (finding 5 36 r.regwen_at name ∷ [])
+faults_of_gate r name None = rules.unknown_gate r.regwen_at name ∷ []
+faults_of_gate r name (Some gate) = cond (is_gate gate) [] (rules.bad_gate r.regwen_at name ∷ [])
 
 -- what a register breaks that has a gate of this name, or none
 unfoldable pub faults_of_regwen : List Item → RegDesc → Option (List ℕ) → List Finding

@@ -17,14 +17,16 @@ forth c skips = false≢true (sym c.if-is_skip_back.false ∙ c.is_skip_back.ens
 
 pub returns-then-is_skip_back : goal.returns-then-is_skip_back
 returns-then-is_skip_back c =
-    reached_back (rest (goal.at.returns-then-is_skip_back c).After-is_skip_back) c.loop-item.invariant c.place_of.result c.place_of.ensures
-    (c.is_skip_back.ensures.0 c.if-is_skip_back.true)
+    rw c.skip_back.ensures
+    (reached_back (rest (goal.at.returns-then-is_skip_back c).After-is_skip_back) c.loop-item.invariant c.place_of.result c.place_of.ensures
+    (c.is_skip_back.ensures.0 c.if-is_skip_back.true))
 
 pub returns-then-low-gt-END_LIMIT : goal.returns-then-low-gt-END_LIMIT
 returns-then-low-gt-END_LIMIT c =
     let on = goal.at.returns-then-low-gt-END_LIMIT c in
-    reached_past (rest on.After-is_skip_back) c.loop-item.invariant c.place_of-then-low-gt-END_LIMIT.result c.own_name.result.now c.extent_of-low.result.end
-    c.place_of-then-low-gt-END_LIMIT.ensures c.own_name.ensures (forth on.Else-is_skip_back) (extent_ends c.extent_of-low.ensures) c.if-low-gt-END_LIMIT.true
+    rw c.past_the_end.ensures
+    (reached_past (rest on.After-is_skip_back) c.loop-item.invariant c.place_of-then-low-gt-END_LIMIT.result c.own_name.result.now c.extent_of-low.result.end
+    c.place_of-then-low-gt-END_LIMIT.ensures c.own_name.ensures (forth on.Else-is_skip_back) (extent_ends c.extent_of-low.ensures) c.if-low-gt-END_LIMIT.true)
 
 pub loop-item-preserved : goal.loop-item-preserved
 loop-item-preserved c =

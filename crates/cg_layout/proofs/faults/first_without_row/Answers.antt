@@ -7,4 +7,5 @@ returns-then-has_row c = tells_row c.args.face.now c.args.items.now (sym c.has_r
 
 pub returns : goal.returns
 returns c =
-    tells_no_row c.args.face.now c.args.items.now c.name_or_empty.result.now (sym c.has_row.ensures ∙ c.if-has_row.false) c.name_or_empty.ensures
+    rw c.no_items.ensures
+    (tells_no_row c.args.face.now c.args.items.now c.name_or_empty.result.now (sym c.has_row.ensures ∙ c.if-has_row.false) c.name_or_empty.ensures)
