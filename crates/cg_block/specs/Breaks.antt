@@ -2,7 +2,8 @@
 use Rattle.std.specs.Prelude.{◌≡◌, ℕ, List, Some, None, Result, Ok, Err}
 use Rattle.cg_desc.specs.declared.block.LaidBlock.{LaidBlock}
 use Rattle.cg_desc.specs.declared.fault.DescFault.{DescFault}
-use Rattle.cg_finding.specs.Finding.{Finding, finding}
+use Rattle.cg_finding.specs.Finding.{Finding}
+use Rattle.cg_finding.specs.Rules as rules
 use Rattle.cg_finding.specs.Violations.{RefusesFirst}
 use Rattle.cg_hjson.specs.declared.tree.Tree.{Tree}
 use Rattle.cg_blkread.specs.Described.{block_of}
@@ -19,7 +20,7 @@ pub data BreaksTree (number : ℕ) (t : Tree) : Finding → Type 0 where
   names_or_counts : {f : Finding} → IsBlock t → BreaksNamesOrCounts (block_of number t) f → BreaksTree number t f
   offsets_or_gates : {f : Finding} → HasItems number t → BreaksOffsetsOrGates (block_of number t) f → BreaksTree number t f
   -- a name comes twice in a register module, or else in the header; the first that does, at the root's opener
-  clash : {name : List ℕ} (laid : LaidBlock) → IsLaidOutAs number t laid → clash_of laid ≡ Some name → BreaksTree number t (finding 12 70 t.at name)
+  clash : {name : List ℕ} (laid : LaidBlock) → IsLaidOutAs number t laid → clash_of laid ≡ Some name → BreaksTree number t (rules.names_clash t.at name)
 
 -- what the file of a block breaks: as a file and a document, or else by its tree
 pub data BreaksBlock (file : File) : Finding → Type 0 where

@@ -12,15 +12,15 @@ use Rattle.cg_hdrspec.specs.Meaning.{HeaderMeans}
 use Rattle.cg_jsonspec.specs.ReadsBack.{ReadsBack}
 use Rattle.cg_done.specs.Full.{full_block}
 use Rattle.cg_files.specs.Files.{File, limit, limit_of_all, some_file}
-use Rattle.cg_block.specs.Outputs.{register_output, header_output, completed_output}
+use Rattle.cg_block.specs.Outputs.{module_name_of, register_output, header_output, completed_output}
 use Rattle.cg_block.specs.Breaks.{BreaksBlock, IsGoodFile}
 
--- The text stands for one module that acts as the interface's register block: its accesses reach its registers and windows at their
--- offsets, and change its fields by their access kinds.
-pub record RegisterTextMeans (face : LaidFace) (text : List ℕ) : Type 0 where
+-- The text stands for one module, of the interface's name, that acts as the interface's register block: its accesses reach its
+-- registers and windows at their offsets, and change its fields by their access kinds.
+pub record RegisterTextMeans (laid : LaidBlock) (face : LaidFace) (text : List ℕ) : Type 0 where
   pub module_of_text : Module
   pub stands : Stands text (module_of_text ∷ [])
-  pub acts : RegisterMeans module_of_text face
+  pub acts : RegisterMeans (module_name_of laid face) module_of_text face
 
 -- the same files are written of both blocks, byte for byte
 pub record WritesSame (t : Tree) (laid : LaidBlock) (u : Tree) (other : LaidBlock) : Type 0 where
@@ -44,6 +44,6 @@ pub record CompletedMeans (file : File) (t : Tree) (laid : LaidBlock) (text : Li
 
 -- what the files of a good block mean
 pub record BlockMeans (file : File) (t : Tree) (laid : LaidBlock) : Type 0 where
-  pub registers : (face : LaidFace) → Among face laid.faces → RegisterTextMeans face (register_output laid face).bytes
+  pub registers : (face : LaidFace) → Among face laid.faces → RegisterTextMeans laid face (register_output laid face).bytes
   pub header : HeaderMeans laid (header_output laid).bytes
   pub completed : CompletedMeans file t laid (completed_output t laid).bytes

@@ -8,7 +8,8 @@ ghost use Rattle.cg_blkread.specs.Described.{block_of};
 ghost use Rattle.cg_hdrspec.specs.BlockHeader.{header_text};
 ghost use Rattle.cg_sv.specs.Views.{module_of};
 ghost use Rattle.cg_regspec.specs.RegisterModule.{modules_of};
-ghost use Rattle.cg_finding.specs.Finding.{finding, in_file};
+ghost use Rattle.cg_finding.specs.Refusal.{Names};
+ghost use Rattle.cg_finding.specs.Rules as rules;
 ghost use Rattle.cg_files.specs.Files.{some_file};
 ghost use Rattle.cg_block.specs.Stages.{IsLaidOutAs};
 ghost use Rattle.cg_block.specs.Breaks.{FindsInTree, FindsInFile, IsGoodBlock};
@@ -17,7 +18,8 @@ ghost use Rattle.cg_block.specs.Unit.{IsUnitOf};
 use crate::block::laid_block;
 use crate::texts::{BlockTexts, block_texts};
 use cg_base::Text;
-use cg_desc::{At, DescFault, Fault, LaidBlock};
+use cg_desc::{At, DescFault, LaidBlock};
+use cg_finding::{Found, refusal};
 use cg_files::tree_of;
 use cg_hjson::Tree;
 use cg_sv::SvRegFault;
@@ -32,16 +34,10 @@ pub struct BlockUnit {
 }
 
 /// Two names of what is written are the same.
-fn clash(file: u32, at: At, name: Text) -> Fault
-    ensures { result ≡ in_file file (finding 12 70 at name) }
+fn clash(alloc: Global, file: u32, at: At, name: &Text) -> DescFault
+    ensures { Names result file (rules.names_clash at name.now) }
 {
-    Fault {
-        phase: 12,
-        rule: 70,
-        file,
-        at,
-        name,
-    }
+    refusal(alloc, Found::names_clash(at, name.as_str()), file)
 }
 
 /// The texts of a block that is laid out, or the first name that comes twice in them.
@@ -60,7 +56,7 @@ fn texts_of(
 {
     match block_texts(alloc, laid) {
         Ok(texts) => Ok(texts),
-        Err(SvRegFault::Clash { name }) => Err(DescFault::Fault(clash(file, tree.at, name))),
+        Err(SvRegFault::Clash { name }) => Err(clash(alloc, file, tree.at, &name)),
         Err(SvRegFault::Memory) => Err(DescFault::Memory),
     }
 }

@@ -10,9 +10,10 @@ use Rattle.cg_desc.specs.declared.fault.DescFault.{DescFault}
 use Rattle.cg_desc.specs.declared.fault.DescFault.TheVariants.{Fault, Memory}
 use Rattle.cg_keys.specs.Duplicates.{at_of}
 use Rattle.cg_finding.specs.Finding.{Finding, finding, in_file}
+use Rattle.cg_finding.specs.Rules as rules
 use Rattle.cg_finding.specs.Refusal.{Names}
 use Rattle.cg_finding.specs.Violations.{IsFirstViolation, RefusesFirst}
-use Rattle.cg_files.specs.Files.{File, IsText, IsTooLarge, HasTree, BreaksFile, absent, too_large, not_utf8, no_document, too_deep, place_behind, start}
+use Rattle.cg_files.specs.Files.{File, IsText, IsTooLarge, HasTree, BreaksFile, absent, too_large, not_utf8, no_document, too_deep, place_behind}
 use Rattle.cg_files.proofs.OneTree.{same_bytes, not_text, not_large}
 
 -- a refusal that names the first violation
@@ -34,12 +35,12 @@ alone : (V : Finding → Type 0) (f : Finding) → V f → ((g : Finding) → V 
 alone V f is only = record { violates = is; least = λ file g also before. before_irreflexive (in_file file f) (subst (λ h. Before (in_file file h) (in_file file f)) (only g also) before) }
 
 -- a file that is absent
-pub first_absent : (file : File) → file.given ≡ None → IsFirstViolation (BreaksFile file) (finding 0 10 start [])
+pub first_absent : (file : File) → file.given ≡ None → IsFirstViolation (BreaksFile file) (rules.file_absent)
 first_absent file none = alone (BreaksFile file) _ (absent none) only where
   bad : (bytes : List ℕ) → file.given ≡ Some bytes → ⊥
   bad bytes is = let e : Some bytes ≡ None = sym is ∙ none in cc
 
-  only : (g : Finding) → BreaksFile file g → g ≡ finding 0 10 start []
+  only : (g : Finding) → BreaksFile file g → g ≡ rules.file_absent
   only _ (absent also) = refl
   only _ (too_large bytes is many) = absurd (bad bytes is)
   only _ (not_utf8 bytes good is invalid) = absurd (bad bytes is)
@@ -47,15 +48,15 @@ first_absent file none = alone (BreaksFile file) _ (absent none) only where
   only _ (too_deep bytes at text is) = absurd (bad bytes text.given)
 
 -- a file that is too large
-pub first_large : (file : File) (bytes : List ℕ) → file.given ≡ Some bytes → IsTooLarge file.before bytes → IsFirstViolation (BreaksFile file) (finding 0 11 start [])
+pub first_large : (file : File) (bytes : List ℕ) → file.given ≡ Some bytes → IsTooLarge file.before bytes → IsFirstViolation (BreaksFile file) (rules.file_too_large)
 first_large file bytes is many = record { violates = too_large bytes is many; least = least } where
   no_text : (other : List ℕ) → IsText file other → ⊥
   no_text other text = not_large file other text (subst (IsTooLarge file.before) (same_bytes file.given bytes other is text.given) many)
 
-  least : (number : ℕ) (g : Finding) → BreaksFile file g → ¬ Before (in_file number g) (in_file number (finding 0 11 start []))
+  least : (number : ℕ) (g : Finding) → BreaksFile file g → ¬ Before (in_file number g) (in_file number (rules.file_too_large))
   least number _ (absent none) = let e : Some bytes ≡ None = sym is ∙ none in cc
-  least number _ (too_large other also large) = before_irreflexive (in_file number (finding 0 11 start []))
-  least number _ (not_utf8 other good also invalid) = start_first number (finding 0 11 start []) (finding 0 12 (place_behind other good) []) refl refl (omega arith)
+  least number _ (too_large other also large) = before_irreflexive (in_file number (rules.file_too_large))
+  least number _ (not_utf8 other good also invalid) = start_first number (rules.file_too_large) (finding 0 12 (place_behind other good) []) refl refl (omega arith)
   least number _ (no_document other at text none) = absurd (no_text other text)
   least number _ (too_deep other at text opens) = absurd (no_text other text)
 

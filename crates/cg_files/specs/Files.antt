@@ -7,7 +7,8 @@ use Rattle.cg_docspec.specs.Document.{Document}
 use Rattle.cg_docspec.specs.SyntaxFault.{NoDocument, TooDeep}
 use Rattle.cg_desc.specs.declared.place.At.{At}
 use Rattle.cg_desc.specs.declared.fault.DescFault.{DescFault}
-use Rattle.cg_finding.specs.Finding.{Finding, finding}
+use Rattle.cg_finding.specs.Finding.{Finding}
+use Rattle.cg_finding.specs.Rules as rules
 use Rattle.cg_finding.specs.Violations.{RefusesFirst}
 use Rattle.cg_keys.specs.Duplicates.{at_of}
 use Rattle.cg_hjson.specs.Views.{tree_of}
@@ -56,9 +57,6 @@ pub record HasTree (file : File) (t : Tree) : Type 0 where
 
 -- ---- what it breaks
 
-abbrev pub start : At
-start = record { byte = 0; line = 1; column = 1 }
-
 -- the place behind the first n bytes, which are UTF-8; a column counts characters
 abbrev pub place_behind : List ℕ → ℕ → At
 place_behind bytes n = at_of (place_after origin (chars (take n bytes)))
@@ -66,13 +64,13 @@ place_behind bytes n = at_of (place_after origin (chars (take n bytes)))
 -- What a file breaks before it has a tree. That a text is no document, or too deep, is looked for in a file that is not too large and
 -- is UTF-8.
 pub data BreaksFile (file : File) : Finding → Type 0 where
-  absent : file.given ≡ None → BreaksFile file (finding 0 10 start [])
-  too_large : (bytes : List ℕ) → file.given ≡ Some bytes → IsTooLarge file.before bytes → BreaksFile file (finding 0 11 start [])
+  absent : file.given ≡ None → BreaksFile file rules.file_absent
+  too_large : (bytes : List ℕ) → file.given ≡ Some bytes → IsTooLarge file.before bytes → BreaksFile file rules.file_too_large
   -- the bytes are UTF-8 up to the first bad one, and no further
   not_utf8 : (bytes : List ℕ) (good : ℕ) → file.given ≡ Some bytes → IsValidUpTo bytes good
-      → BreaksFile file (finding 0 12 (place_behind bytes good) [])
-  no_document : (bytes : List ℕ) (at : Place) → IsText file bytes → NoDocument (chars bytes) at → BreaksFile file (finding 1 15 (at_of at) [])
-  too_deep : (bytes : List ℕ) (at : Place) → IsText file bytes → TooDeep (chars bytes) at → BreaksFile file (finding 1 16 (at_of at) [])
+      → BreaksFile file (rules.not_utf8 (place_behind bytes good))
+  no_document : (bytes : List ℕ) (at : Place) → IsText file bytes → NoDocument (chars bytes) at → BreaksFile file (rules.not_a_document (at_of at))
+  too_deep : (bytes : List ℕ) (at : Place) → IsText file bytes → TooDeep (chars bytes) at → BreaksFile file (rules.too_deep (at_of at))
 
 -- a value that is right; or a refusal that names the first of all that the file breaks
 abbrev pub Finds : {X : Type 0} → Result X DescFault → File → (X → Type 0) → Type 0

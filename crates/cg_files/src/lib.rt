@@ -11,5 +11,5 @@
 mod file;
 mod laws;
 
-pub use file::{LIMIT, LIMIT_OF_ALL, broken_file, tree_of};
+pub use file::{LIMIT, LIMIT_OF_ALL, absent_file, large_file, tree_of};
 pub use laws::a_file_has_one_tree;

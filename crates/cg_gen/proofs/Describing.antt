@@ -7,10 +7,11 @@ use Rattle.cg_desc.specs.declared.fault.DescFault.TheVariants.{Fault as refused_
 use Rattle.cg_desc.specs.declared.fault.Fault.{Fault}
 use Rattle.cg_desc.specs.declared.block.LaidBlock.{LaidBlock}
 use Rattle.cg_finding.specs.Finding.{Finding, finding, in_file}
+use Rattle.cg_finding.specs.Rules as rules
 use Rattle.cg_finding.specs.Refusal.{Names}
 use Rattle.cg_finding.specs.Violations.{IsFirstViolation, IsFirstFault, RefusesFirst}
 use Rattle.cg_hjson.specs.declared.tree.Tree.{Tree}
-use Rattle.cg_files.specs.Files.{File, BreaksFile, limit, start}
+use Rattle.cg_files.specs.Files.{File, BreaksFile, limit}
 use Rattle.cg_files.proofs.FirstOnes.{first_absent, first_large, named}
 use Rattle.cg_outputs.specs.declared.out_file.OutFile.{OutFile}
 use Rattle.cg_outputs.specs.Outputs.{AreOutputs}
@@ -33,10 +34,10 @@ only_read r file (inl is) = is
 only_read r file (inr none) = absurd none
 
 -- an absent file, and one that is too large
-pub absent_refused : (e : DescFault) → Names e 0 (finding 0 10 start []) → RefusesFirst e 0 (BreaksBlock (only_file None))
+pub absent_refused : (e : DescFault) → Names e 0 rules.file_absent → RefusesFirst e 0 (BreaksBlock (only_file None))
 absent_refused e names = file_first (only_file None) e (named e 0 _ _ names (first_absent (only_file None) refl))
 
-pub large_refused : (e : DescFault) (bytes : List ℕ) → limit < length bytes → Names e 0 (finding 0 11 start []) → RefusesFirst e 0 (BreaksBlock (only_file (Some bytes)))
+pub large_refused : (e : DescFault) (bytes : List ℕ) → limit < length bytes → Names e 0 rules.file_too_large → RefusesFirst e 0 (BreaksBlock (only_file (Some bytes)))
 large_refused e bytes many names = file_first (only_file (Some bytes)) e (named e 0 _ _ names (first_large (only_file (Some bytes)) bytes refl (inl many)))
 
 -- the first that the file breaks is the first fault of the build

@@ -68,7 +68,7 @@ pub record HoldsText (dir : List ℕ) (after : Files) (name : List ℕ) (Means :
 
 -- what is asked for is held, with its meaning
 abbrev pub Holds : RegOut → (dir : List ℕ) → File → Tree → LaidBlock → Files → Type 0
-Holds Registers dir file t laid after = (face : LaidFace) → Among face laid.faces → HoldsText dir after (register_output laid face).name (RegisterTextMeans face)
+Holds Registers dir file t laid after = (face : LaidFace) → Among face laid.faces → HoldsText dir after (register_output laid face).name (RegisterTextMeans laid face)
 Holds Header dir file t laid after = HoldsText dir after (header_output laid).name (HeaderMeans laid)
 Holds Completed dir file t laid after = HoldsText dir after (completed_output t laid).name (CompletedMeans file t laid)
 

@@ -15,7 +15,7 @@ use crate::told::{fault_due, outputs_due};
 use cg_base::{List, Memory};
 use cg_block::{BlockUnit, completed_output, header_output, read_block, register_outputs};
 use cg_desc::DescFault;
-use cg_files::broken_file;
+use cg_files::{absent_file, large_file};
 use cg_outputs::OutFile;
 use cg_words::RegOut;
 use std::alloc::Global;
@@ -25,8 +25,8 @@ fn unit_of(alloc: Global, given: &Given) -> Result<BlockUnit, DescFault>
     ensures { (g : Option (List ℕ)) → IsGiven given.now g → FindsInFile result (only_file g) (λ unit. IsUnitOf (only_file g) unit) }
 {
     match given {
-        Given::Absent => Err(broken_file(alloc, 0, 10)),
-        Given::Large => Err(broken_file(alloc, 0, 11)),
+        Given::Absent => Err(absent_file(alloc, 0)),
+        Given::Large => Err(large_file(alloc, 0)),
         Given::Bytes(bytes) => read_block(alloc, 0, 0, bytes.as_slice()),
     }
 }

@@ -1,5 +1,5 @@
 use Rattle.std.proofs.Common.{sym, subst, Some}
-use Rattle.cg_finding.specs.Finding.{finding}
+use Rattle.cg_files.proofs.FirstOnes.{named}
 use Rattle.cg_block.proofs.FirstOnes.{clash_first}
 use Rattle.cg_block.proofs.Modules.{few_faces, is_named}
 use Rattle.cg_block.proofs.unit.texts_of.Goals as goal
@@ -14,4 +14,4 @@ block_texts-requires-clause-named c = is_named _ c.args.laid.now c.requires.vali
 pub returns-in-Err-Clash-clause-finds : goal.returns-in-Err-Clash-clause-finds
 returns-in-Err-Clash-clause-finds c =
     let repeat = c.block_texts.ensures.clash c.in-Err-Clash.name (cc) in
-    (_, c.clash.ensures, clash_first c.args.file c.args.tree.now c.args.laid.now _ c.requires.stage repeat)
+    named _ _ _ _ c.clash.ensures (clash_first c.args.file c.args.tree.now c.args.laid.now _ c.requires.stage repeat)

@@ -13,7 +13,7 @@ returns-then-bytes-gt-LIMIT c =
       | then-bytes-gt-LIMIT-via-then-bytes-gt-LIMIT w ↦ inl (omega (arith, w.if-bytes-gt-LIMIT))
       | then-bytes-gt-LIMIT-via-else-bytes-gt-LIMIT+then-before-bytes w ↦ inr (omega (arith, w.if-bytes-gt-LIMIT, w.if-before-bytes))
     ] in
-    named _ _ _ _ c.broken_file.ensures (first_large file c.args.bytes.now refl many)
+    named _ _ _ _ c.large_file.ensures (first_large file c.args.bytes.now refl many)
 
 -- a byte that is not UTF-8
 pub returns-in-Err : goal.returns-in-Err

@@ -9,10 +9,10 @@ use Rattle.cg_gen.proofs.regtool.unit_of.Goals as goal
 pub returns-in-Absent : goal.returns-in-Absent
 returns-in-Absent c g given =
     let none : g ≡ None = rw c.in-Absent.is at given in
-    subst (λ x. RefusesFirst c.broken_file.result 0 (BreaksBlock (only_file x))) (sym none) (absent_refused _ c.broken_file.ensures)
+    subst (λ x. RefusesFirst c.absent_file.result 0 (BreaksBlock (only_file x))) (sym none) (absent_refused _ c.absent_file.ensures)
 
 -- a file above the limit
 pub returns-in-Large : goal.returns-in-Large
 returns-in-Large c g given =
     let large = rw c.in-Large.is at given in
-    subst (λ x. RefusesFirst c.broken_file-in-Large.result 0 (BreaksBlock (only_file x))) (sym large.1) (large_refused _ large.0 large.2 c.broken_file-in-Large.ensures)
+    subst (λ x. RefusesFirst c.large_file.result 0 (BreaksBlock (only_file x))) (sym large.1) (large_refused _ large.0 large.2 c.large_file.ensures)
