@@ -10,6 +10,7 @@ ghost use Rattle.std.specs.Prelude.{◌≡◌};
 use cg_base::{FileStore, OpenGate, Sink, Source, StdSink, StdSource, Steps, Store};
 use std::alloc::Global;
 use std::env;
+use std::io::ErrorKind;
 use std::marker::Brand;
 use std::process::ExitCode;
 use std::sync::ledger::{Blank, Ledger};
@@ -39,9 +40,19 @@ fn run_counted<L: Ledger, R: Threads + Sync, S: Store, I: Source, O: Sink, E: Si
     )
 }
 
-// The words of the command line without the program's name, `None` where they were not to be had.
+// The words of the command line without the program's name, `None` where memory was not found for them. Words that are not UTF-8
+// are no command, and are taken for none at all.
 fn words_of(rt: HostRuntime) -> Option<Vec<String>> {
-    let mut args = env::args(&rt).ok()?;
+    let mut args = match env::args(&rt) {
+        Ok(args) => args,
+        Err(error) => {
+            return if error.kind() == ErrorKind::OutOfMemory {
+                None
+            } else {
+                Some(Vec::new(rt.alloc()))
+            };
+        }
+    };
     let _program = args.next();
     let mut words = Vec::new(rt.alloc());
     for word in args {
