@@ -8,6 +8,7 @@ use std::thread::Threads;
 
 mod basics;
 mod completed;
+mod crossbars;
 mod described;
 mod documents;
 mod duplicates;
@@ -57,6 +58,7 @@ pub enum Subject {
     ReadKeys,
     DescribedBlocks,
     DescribedEntries,
+    Crossbars,
     ItemsOfEntries,
     ItemsOfKeys,
     LaidEntries,
@@ -80,7 +82,7 @@ pub enum Subject {
 
 impl Subject {
     /// All subjects, lowest crate first.
-    pub const ALL: [Subject; 38] = [
+    pub const ALL: [Subject; 39] = [
         Subject::Basics,
         Subject::Numbers,
         Subject::Stores,
@@ -100,6 +102,7 @@ impl Subject {
         Subject::ReadKeys,
         Subject::DescribedBlocks,
         Subject::DescribedEntries,
+        Subject::Crossbars,
         Subject::ItemsOfEntries,
         Subject::ItemsOfKeys,
         Subject::LaidEntries,
@@ -143,6 +146,7 @@ impl Subject {
             Subject::ReadKeys => "read_keys.txt",
             Subject::DescribedBlocks => "described_blocks.txt",
             Subject::DescribedEntries => "described_entries.txt",
+            Subject::Crossbars => "crossbars.txt",
             Subject::ItemsOfEntries => "items_of_entries.txt",
             Subject::ItemsOfKeys => "items_of_keys.txt",
             Subject::LaidEntries => "laid_entries.txt",
@@ -211,6 +215,7 @@ impl Subject {
             ),
             Subject::DescribedBlocks => described::answer(alloc, text),
             Subject::DescribedEntries => described::answer_for_entries(alloc, text),
+            Subject::Crossbars => crossbars::answer(alloc, text),
             Subject::ItemsOfEntries | Subject::ItemsOfKeys => items::answer(alloc, text),
             Subject::LaidEntries | Subject::LaidKeys => laid::rows(alloc, text),
             Subject::FieldsOfEntries | Subject::FieldsOfKeys => laid::fields(alloc, text),

@@ -1,15 +1,17 @@
-//! A block's description, from its text to its interfaces with their offsets.
+//! A block's description, from its text to its interfaces with their offsets, and a crossbar's.
 
 ghost use Rattle.std.specs.Prelude.{IfOk};
+ghost use Rattle.cg_desc.specs.Crossbar.{IsValidCrossbar};
 ghost use Rattle.cg_desc.specs.Valid.{IsValidBlock};
 ghost use Rattle.cg_hdrspec.specs.Laws.{IsNamed};
 
 use cg_base::{List, Memory};
 use cg_blkread::block;
-use cg_desc::{BlockDesc, DescFault, FaceItems, LaidBlock, fault_text};
+use cg_desc::{BlockDesc, DescFault, FaceItems, LaidBlock, XbarDesc, fault_text};
 use cg_expand::expand;
 use cg_hjson::{HjsonFault, Tree, read};
 use cg_layout::lay;
+use cg_xbread::xbar;
 use std::alloc::Global;
 
 /// How many bytes the text of a row has at most.
@@ -80,4 +82,13 @@ pub fn laid(alloc: Global, document: &str) -> Result<LaidBlock, Stop>
     let items = expand(alloc, &described)?;
     let laid = lay(alloc, described, items)?;
     Ok(laid)
+}
+
+/// The description of the crossbar.
+pub fn crossbar(alloc: Global, document: &str) -> Result<XbarDesc, Stop>
+    ensures { IfOk result (λ crossbar. IsValidCrossbar crossbar) }
+{
+    let tree = tree(alloc, document)?;
+    let crossbar = xbar(alloc, &tree, 0)?;
+    Ok(crossbar)
 }
