@@ -1,5 +1,5 @@
 -- When a laid interface is whole: its rows at their places, its fields in order, its gates there.
-use Rattle.std.specs.Prelude.{◌≡◌, ℕ, suc, max, ◌-◌, ◌*◌, ◌^◌, ◌<◌, ◌≤◌, true, List, [], ◌∷◌, Option, Some, None}
+use Rattle.std.specs.Prelude.{◌≡◌, ℕ, suc, max, ◌+◌, ◌-◌, ◌*◌, ◌^◌, ◌<◌, ◌≤◌, true, List, [], ◌∷◌, Option, Some, None}
 use Rattle.std.specs.Int.{IsNextPowerOfTwo}
 use Rattle.cg_svspec.specs.Characters.{IsWord}
 use Rattle.cg_desc.specs.Target.{row_end}

@@ -3,6 +3,7 @@
 use crate::stages::described;
 use cg_base::{List, Memory, Text};
 use cg_desc::{BlockDesc, FieldDesc, IoDir, RegDesc, Written};
+use cg_table::with_entries;
 use std::alloc::{AllocError, Global};
 
 /// A word where a fact holds.
@@ -164,9 +165,10 @@ pub fn answer(alloc: Global, document: &str) -> Result<String, Memory> {
     }
 }
 
-/// A line for each entry of a block and each of its fields, or the line of the block's first fault.
-pub fn answer_for_entries(alloc: Global, document: &str) -> Result<String, Memory> {
-    match described(alloc, document) {
+/// A line for each of these entries of a block and each of their fields, or the line of the block's first fault.
+pub fn answer_for_entries(alloc: Global, entries: &str) -> Result<String, Memory> {
+    let document = with_entries(alloc, entries)?;
+    match described(alloc, document.as_str()) {
         Ok(block) => {
             let mut shown = String::new(alloc);
             for device in block.faces.as_slice() {

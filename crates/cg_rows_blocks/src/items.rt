@@ -3,6 +3,7 @@
 use crate::stages::expanded;
 use cg_base::Memory;
 use cg_desc::{FaceItems, FieldDesc, Item, RegDesc};
+use cg_table::{with_entries_in_line_3, with_keys};
 use std::alloc::{AllocError, Global};
 
 fn show_field(out: &mut String, field: &FieldDesc) -> Result<(), AllocError> {
@@ -46,9 +47,19 @@ fn show(alloc: Global, faces: &[FaceItems]) -> Result<String, AllocError> {
 }
 
 /// The items of each device interface, or the line of the block's first fault up to them.
-pub fn answer(alloc: Global, document: &str) -> Result<String, Memory> {
+fn answer(alloc: Global, document: &str) -> Result<String, Memory> {
     match expanded(alloc, document) {
         Ok(faces) => Ok(show(alloc, faces.as_slice())?),
         Err(stop) => stop.line(alloc),
     }
+}
+
+/// The same of a block with these entries.
+pub fn answer_for_entries(alloc: Global, entries: &str) -> Result<String, Memory> {
+    answer(alloc, with_entries_in_line_3(alloc, entries)?.as_str())
+}
+
+/// The same of a block with these keys.
+pub fn answer_for_keys(alloc: Global, keys: &str) -> Result<String, Memory> {
+    answer(alloc, with_keys(alloc, keys)?.as_str())
 }

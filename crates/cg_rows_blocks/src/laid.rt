@@ -3,6 +3,7 @@
 use crate::stages::laid;
 use cg_base::Memory;
 use cg_desc::{Item, LaidBlock, LaidFace, LaidRow};
+use cg_table::{with_entries_in_line_3, with_keys};
 use std::alloc::{AllocError, Global};
 
 /// What is shown of each interface.
@@ -99,6 +100,7 @@ fn spelled(alloc: Global, shown: Shown, block: &LaidBlock) -> Result<String, All
     Ok(out)
 }
 
+/// What is shown of a block, or the line of its first fault up to the layout.
 fn answer(alloc: Global, shown: Shown, document: &str) -> Result<String, Memory> {
     match laid(alloc, document) {
         Ok(block) => Ok(spelled(alloc, shown, &block)?),
@@ -106,12 +108,22 @@ fn answer(alloc: Global, shown: Shown, document: &str) -> Result<String, Memory>
     }
 }
 
-/// The rows of each interface at their offsets, or the line of the block's first fault up to the layout.
-pub fn rows(alloc: Global, document: &str) -> Result<String, Memory> {
-    answer(alloc, Shown::Rows, document)
+/// The rows of each interface at their offsets, of a block with these entries.
+pub fn rows_of_entries(alloc: Global, entries: &str) -> Result<String, Memory> {
+    answer(alloc, Shown::Rows, with_entries_in_line_3(alloc, entries)?.as_str())
 }
 
-/// The fields of the registers of each interface, or the line of the block's first fault up to the layout.
-pub fn fields(alloc: Global, document: &str) -> Result<String, Memory> {
-    answer(alloc, Shown::Fields, document)
+/// The rows of each interface at their offsets, of a block with these keys.
+pub fn rows_of_keys(alloc: Global, keys: &str) -> Result<String, Memory> {
+    answer(alloc, Shown::Rows, with_keys(alloc, keys)?.as_str())
+}
+
+/// The fields of the registers of each interface, of a block with these entries.
+pub fn fields_of_entries(alloc: Global, entries: &str) -> Result<String, Memory> {
+    answer(alloc, Shown::Fields, with_entries_in_line_3(alloc, entries)?.as_str())
+}
+
+/// The fields of the registers of each interface, of a block with these keys.
+pub fn fields_of_keys(alloc: Global, keys: &str) -> Result<String, Memory> {
+    answer(alloc, Shown::Fields, with_keys(alloc, keys)?.as_str())
 }

@@ -3,7 +3,6 @@
 ghost use Rattle.std.specs.Prelude.{IfOk};
 ghost use Rattle.cg_desc.specs.Crossbar.{IsValidCrossbar};
 ghost use Rattle.cg_desc.specs.Valid.{IsValidBlock};
-ghost use Rattle.cg_hdrspec.specs.Laws.{IsNamed};
 
 use cg_base::{List, Memory};
 use cg_blkread::block;
@@ -15,7 +14,7 @@ use cg_xbread::xbar;
 use std::alloc::Global;
 
 /// How many bytes the text of a row has at most.
-pub const LIMIT: usize = 4_000_000;
+const LIMIT: usize = 4_000_000;
 
 /// Why there is nothing to show of a text.
 #[derive(Drop)]
@@ -75,9 +74,7 @@ pub fn expanded(alloc: Global, document: &str) -> Result<List<FaceItems>, Stop> 
 }
 
 /// The block with its rows at their offsets.
-pub fn laid(alloc: Global, document: &str) -> Result<LaidBlock, Stop>
-    ensures { IfOk result (λ laid. IsNamed laid) }
-{
+pub fn laid(alloc: Global, document: &str) -> Result<LaidBlock, Stop> {
     let described = described(alloc, document)?;
     let items = expand(alloc, &described)?;
     let laid = lay(alloc, described, items)?;

@@ -2,6 +2,7 @@
 
 use crate::running::first_fault;
 use cg_base::Memory;
+use cg_table::{with_entries_in_line_3, with_keys};
 use std::alloc::Global;
 use std::thread::Threads;
 
@@ -19,11 +20,29 @@ fn bytes_of(alloc: Global, text: &str) -> Result<Vec<u8>, Memory> {
     Ok(bytes)
 }
 
-/// A row gives the text of the file `b.hjson`; the line is told without the file's name.
-pub fn line<R: Threads + Sync>(rt: &R, alloc: Global, given: &str) -> Result<String, Memory> {
+/// The line of the first fault of a description, without the file's name.
+fn line<R: Threads + Sync>(rt: &R, alloc: Global, given: &str) -> Result<String, Memory> {
     let told = first_fault(rt, alloc, given.as_bytes())?;
     let line = told.strip_prefix("b.hjson:").unwrap_or(told.as_str());
     Ok(String::from_str(alloc, line)?)
+}
+
+/// A row gives the entries of a block; the line is told without the file's name.
+pub fn line_of_entries<R: Threads + Sync>(
+    rt: &R,
+    alloc: Global,
+    entries: &str,
+) -> Result<String, Memory> {
+    line(rt, alloc, with_entries_in_line_3(alloc, entries)?.as_str())
+}
+
+/// A row gives keys of a block; the line is told without the file's name.
+pub fn line_of_keys<R: Threads + Sync>(
+    rt: &R,
+    alloc: Global,
+    keys: &str,
+) -> Result<String, Memory> {
+    line(rt, alloc, with_keys(alloc, keys)?.as_str())
 }
 
 /// A row gives the file `b.hjson`, and the line is told with its name.
