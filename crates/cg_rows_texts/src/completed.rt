@@ -1,26 +1,26 @@
 //! Completed descriptions of blocks.
 
-use crate::stages::{LIMIT, Stop};
-use cg_base::Memory;
+use crate::blocks::line;
+use cg_base::{Memory, Text};
 use cg_blkread::block;
+use cg_desc::DescFault;
 use cg_done::done_block;
-use cg_hjson::read;
+use cg_files::tree_of;
 use cg_jsonspec::documents_are_sayable;
 use std::alloc::Global;
 
-/// The completed description of a block.
-pub fn answer(alloc: Global, given: &str) -> Result<String, Memory> {
-    if given.len() > LIMIT {
-        return Err(Memory);
-    }
+fn completed(alloc: Global, text: &str) -> Result<Text, DescFault> {
     documents_are_sayable();
-    let Ok(tree) = read(alloc, given) else {
-        return Stop::NoDocument.line(alloc);
-    };
-    let block = match block(alloc, &tree, 0) {
-        Ok(block) => block,
-        Err(fault) => return Stop::Refused(fault).line(alloc),
-    };
+    let tree = tree_of(alloc, 0, 0, text.as_bytes())?;
+    let block = block(alloc, &tree, 0)?;
     let text = done_block(alloc, &tree, &block)?;
-    Ok(text.into_string())
+    Ok(text)
+}
+
+/// The completed description of a block, or the line of its first fault.
+pub fn answer(alloc: Global, given: &str) -> Result<String, Memory> {
+    match completed(alloc, given) {
+        Ok(text) => Ok(text.into_string()),
+        Err(fault) => line(alloc, fault),
+    }
 }

@@ -1,15 +1,18 @@
 //! C headers: those of blocks, and what is read of texts.
 
-use crate::stages::{LIMIT, laid};
+use crate::blocks::{laid, line};
 use cg_base::Memory;
 use cg_chdr::{Constant, HdrClash, HdrFault, block_header, read};
 use std::alloc::Global;
+
+/// How many bytes a text that is read as a header has at most.
+const LIMIT: usize = 4_000_000;
 
 /// The header of a block, or the name that clashes.
 pub fn answer(alloc: Global, given: &str) -> Result<String, Memory> {
     let block = match laid(alloc, given) {
         Ok(block) => block,
-        Err(stop) => return stop.line(alloc),
+        Err(fault) => return line(alloc, fault),
     };
     match block_header(alloc, &block) {
         Ok(text) => Ok(text.into_string()),

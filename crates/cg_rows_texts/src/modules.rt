@@ -3,7 +3,7 @@
 ghost use Rattle.std.specs.Prelude.{◌<◌, length};
 ghost use Rattle.cg_hdrspec.specs.Laws.{IsNamed};
 
-use crate::stages::laid;
+use crate::blocks::{laid, line};
 use cg_base::{Memory, Text};
 use cg_desc::LaidBlock;
 use cg_regspec::register_module_means;
@@ -44,7 +44,7 @@ fn module_texts(alloc: Global, block: &LaidBlock) -> Result<String, SvRegFault>
 pub fn answer(alloc: Global, given: &str) -> Result<String, Memory> {
     let block = match laid(alloc, given) {
         Ok(block) => block,
-        Err(stop) => return stop.line(alloc),
+        Err(fault) => return line(alloc, fault),
     };
     match module_texts(alloc, &block) {
         Ok(texts) => Ok(texts),
