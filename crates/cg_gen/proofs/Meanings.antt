@@ -118,6 +118,6 @@ pub built_means : BlockOutputsMean → (words : List (List ℕ)) (before after :
 built_means law words before after p m told =
     let files : after.outlets.files ≡ (after_deeds p.due.deeds (contents before.outlets)).files = ap (λ (c : Contents). c.files) p.is_done in
     let from : contents before.outlets ≡ record { files = Some m; out = before.outlets.out; err = before.outlets.err } =
-        (λ i. record { files = told i; out = before.outlets.out; err = before.outlets.err }) in
+    (λ i. record { files = told i; out = before.outlets.out; err = before.outlets.err }) in
     by_due law words m p.reads p.due after.outlets.files before.outlets.out before.outlets.err p.finds.is_due (subst (λ f. GaveAll f p.reads) told p.finds.gave) p.is_status
     (files ∙ ap (λ c. (after_deeds p.due.deeds c).files) from)

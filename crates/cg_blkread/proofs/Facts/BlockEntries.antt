@@ -1,16 +1,14 @@
 -- What the entries of a block break of the rules on keys and the profile, as lists and as facts.
-use Rattle.std.proofs.Common.{◌≡◌, Bool, true, false, ◌||◌, cond, is_some, ◌⊎◌, inl, inr, List, [], ◌∷◌, ◌++◌, codes, Option, Some, None, refl, sym, subst}
+use Rattle.std.proofs.Common.{◌≡◌, true, is_some, ◌⊎◌, inl, inr, List, [], ◌∷◌, ◌++◌, codes, Option, Some, None, refl, sym, subst}
 use Rattle.std.specs.List.{flat_map}
 use Rattle.cg_hjson.specs.declared.tree.Tree.{Tree}
 use Rattle.cg_hjson.specs.declared.tree.Member.{Member}
-use Rattle.cg_finding.specs.Finding.{Among, Finding, In, finding}
-use Rattle.cg_finding.specs.Rules.{outside_the_profile, wrong_kind}
+use Rattle.cg_finding.specs.Finding.{Among, Finding, In}
 use Rattle.cg_finding.proofs.Members.{flat_map_has, in_either, in_flat_map, in_left, in_right}
 use Rattle.cg_keys.specs.Elements.{element_faults, elements, list_faults, object_faults}
-use Rattle.cg_keys.specs.Forms.{fits, fits_one, rule_broken}
+use Rattle.cg_keys.specs.Forms.{fits}
 use Rattle.cg_keys.specs.Table.{Key, value_at, value_faults}
 use Rattle.cg_keys.specs.Values.{items_of, members_of, object_in, or_empty}
-use Rattle.cg_keys.specs.Violations.{BreaksTable}
 use Rattle.cg_keys.specs.declared.forms.Form.{Form}
 use Rattle.cg_keys.specs.declared.forms.Form.TheVariants.{Items, Object}
 use Rattle.cg_blkread.specs.Facts.Keys.{BreaksKeys, HasForms, HasTable, ListsOnlyObjects}

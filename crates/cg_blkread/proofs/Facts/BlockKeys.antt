@@ -1,5 +1,5 @@
 -- What a block breaks of the rules on keys, kinds and the profile, as lists and as facts.
-use Rattle.std.proofs.Common.{◌≡◌, ℕ, ◌<◌, ◌≤◌, ◌==◌, Bool, true, false, not, ◌&&◌, nat_le, cond, is_some, ◌⊎◌, inl, inr, List, [], ◌∷◌, ◌++◌, map, length, codes, Option, Some, None, refl, sym, ap, ◌∙◌, subst, arith}
+use Rattle.std.proofs.Common.{◌≡◌, ℕ, ◌<◌, ◌≤◌, ◌==◌, Bool, true, false, ◌&&◌, nat_le, cond, ◌⊎◌, inl, inr, List, [], ◌++◌, length, codes, Option, Some, None, refl, sym, ap, ◌∙◌, subst, arith}
 use Rattle.std.proofs.lemmas.Bool.{and_cases, and_left, and_right, eqb-true, false_from_ne_true, leb-true}
 use Rattle.std.proofs.lemmas.Bool.Decides.{nat_tests}
 use Rattle.std.specs.List.{flat_map}
@@ -7,29 +7,23 @@ use Rattle.std.specs.Option.{option_and_then, option_map_or}
 use Rattle.std.specs.Str.{bytes_eq}
 use Rattle.cg_hjson.specs.declared.tree.Tree.{Tree}
 use Rattle.cg_hjson.specs.declared.tree.Member.{Member}
-use Rattle.cg_finding.specs.Finding.{Among, Finding, In, finding, of_least_phase}
+use Rattle.cg_finding.specs.Finding.{Among, Finding, In}
 use Rattle.cg_finding.specs.Rules.{outside_the_profile, wrong_kind}
-use Rattle.cg_finding.proofs.Members.{flat_map_has, in_either, in_flat_map, in_left, in_right, in_unless, unless_has}
-use Rattle.cg_finding.proofs.Membership.{in_map, is_other_text, map_has, other_text}
+use Rattle.cg_finding.proofs.Members.{in_either, in_flat_map, in_left, in_right, in_unless, unless_has}
+use Rattle.cg_finding.proofs.Membership.{is_other_text, other_text}
 use Rattle.cg_keys.specs.Duplicates.{duplicate_faults}
-use Rattle.cg_keys.specs.Elements.{each_faults, element_faults, elements, length_faults, length_wrong, list_faults, object_faults, wrong_length}
-use Rattle.cg_keys.specs.Forms.{fits, fits_one, number_within, rule_broken}
+use Rattle.cg_keys.specs.Elements.{each_faults, element_faults, elements, length_faults, length_wrong, object_faults, wrong_length}
+use Rattle.cg_keys.specs.Forms.{number_within}
 use Rattle.cg_keys.specs.Lookups.{number_at, text_at}
-use Rattle.cg_keys.specs.Table.{Key, table_faults, value_at, value_faults}
-use Rattle.cg_keys.specs.Values.{array_in, items_of, members_of, object_in, or_empty, text_in}
-use Rattle.cg_keys.specs.declared.forms.Form.{Form}
-use Rattle.cg_keys.specs.declared.forms.Form.TheVariants.{Items, Object}
-use Rattle.cg_keys.proofs.DuplicateKeys.{duplicate_faults_has, in_duplicate_faults}
-use Rattle.cg_keys.proofs.Relation.{in_table_faults, table_faults_has}
-use Rattle.cg_blkread.specs.Facts.Keys.{BreaksKeys, HasForms, HasTable, IsLimited, ListsObjects, ListsOnlyObjects}
-use Rattle.cg_blkread.specs.Facts.Parts.{HasAt, HasNot, IsEntry, IsEntryList, IsFieldOf, IsMultireg, IsRegister, IsReservation, IsSingle, IsSkip, IsWindow, copied, single}
+use Rattle.cg_keys.specs.Table.{Key, table_faults, value_at}
+use Rattle.cg_keys.specs.Values.{array_in, members_of, text_in}
+use Rattle.cg_blkread.specs.Facts.Keys.{BreaksKeys, HasTable, IsLimited, ListsObjects, ListsOnlyObjects}
+use Rattle.cg_blkread.specs.Facts.Parts.{HasAt}
 use Rattle.cg_blkread.specs.Facts.Profile.{BreaksProfile}
-use Rattle.cg_blkread.specs.Interfaces.{EntryList, entry_lists, interface_faults, interfaces}
-use Rattle.cg_blkread.specs.Keys.{compact_outside, entry_faults, entry_kind_faults, entry_list_faults, field_faults, key_faults, lengths_faults, lists_faults, mubi_outside, multireg_faults, objects_faults, outside_key, outside_if_true, protocol_outside, register_faults, register_outside, width_outside, window_faults}
-use Rattle.cg_blkread.specs.Tables.{alert_keys, block_keys, clocking_keys, copy_keys, field_keys, interface_keys, interrupt_keys, parameter_keys, pin_keys, register_keys, window_keys, word_number}
-use Rattle.cg_blkread.proofs.Facts.Entries.{Kind, has_object, is_listed, kind_of, listed_is, multireg, register, reservation, skip, window}
-use Rattle.cg_blkread.proofs.Facts.Interfaces.{interfaces_have, interfaces_tell}
-use Rattle.cg_blkread.proofs.Facts.Registers.{same_some, compact_has, compact_tells, element_has, element_tells, in_looked, list_has, list_tells, looked_has, mubi_has, mubi_tells, object_has, object_tells, outside_has, outside_tells, true_has, true_tells, value_has, value_tells}
+use Rattle.cg_blkread.specs.Interfaces.{entry_lists, interface_faults, interfaces}
+use Rattle.cg_blkread.specs.Keys.{entry_list_faults, key_faults, lengths_faults, lists_faults, objects_faults, outside_key, protocol_outside, width_outside}
+use Rattle.cg_blkread.specs.Tables.{alert_keys, block_keys, clocking_keys, interface_keys, interrupt_keys, parameter_keys, pin_keys}
+use Rattle.cg_blkread.proofs.Facts.Registers.{same_some, element_tells, object_tells, outside_has, outside_tells}
 
 -- ---- lists of objects
 

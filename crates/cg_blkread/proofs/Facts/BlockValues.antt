@@ -1,7 +1,6 @@
 -- What the values of a block break, as lists and as facts.
-use Rattle.std.proofs.Common.{◌≡◌, ℕ, Bool, true, false, inl, inr, List, ◌++◌, map, codes, refl, sym, ap, ◌∙◌, subst}
+use Rattle.std.proofs.Common.{◌≡◌, true, false, inl, inr, List, map, codes, refl, sym, ap, ◌∙◌, subst}
 use Rattle.std.proofs.lemmas.Bool.{false_from_ne_true}
-use Rattle.std.specs.List.{flat_map}
 use Rattle.cg_hjson.specs.declared.tree.Tree.{Tree}
 use Rattle.cg_hjson.specs.declared.tree.Member.{Member}
 use Rattle.cg_finding.specs.Finding.{Among, Finding, In}
@@ -15,7 +14,7 @@ use Rattle.cg_blkread.specs.Facts.Values.{BreaksValues, HasRegister}
 use Rattle.cg_blkread.specs.Interfaces.{EntryList, entry_lists}
 use Rattle.cg_blkread.specs.Raw.{Parameter, parameters, raw_entry, raw_multireg, raw_register, raw_window, number_or_zero}
 use Rattle.cg_blkread.specs.Reads.{raw_entries, value_faults}
-use Rattle.cg_blkread.specs.Values.{bad_count, bad_window, entry_values, is_count_to, register_values}
+use Rattle.cg_blkread.specs.Values.{bad_count, entry_values, is_count_to, register_values}
 use Rattle.cg_blkread.specs.declared.raw.RawEntry.{RawEntry}
 use Rattle.cg_blkread.specs.declared.raw.RawEntry.TheVariants as entry
 use Rattle.cg_blkread.specs.declared.raw.RawRegister.{RawRegister}

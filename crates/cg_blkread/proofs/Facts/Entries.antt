@@ -1,19 +1,17 @@
 -- The entries of a block as lists, and as the relations that say which they are.
-use Rattle.std.proofs.Common.{◌≡◌, ℕ, Bool, true, false, cond, ◌||◌, is_some, List, [], ◌∷◌, ◌++◌, map, codes, Option, Some, None, inl, inr, refl, sym, ap, ◌∙◌, subst}
+use Rattle.std.proofs.Common.{◌≡◌, ℕ, Bool, true, false, cond, ◌||◌, is_some, List, [], ◌∷◌, map, codes, Option, Some, None, inl, inr, refl, sym, ap, ◌∙◌, subst}
 use Rattle.std.proofs.lemmas.Bool.{or_parts}
-use Rattle.std.specs.List.{flat_map, list_any}
-use Rattle.std.specs.Option.{option_map_or}
+use Rattle.std.specs.List.{list_any}
 use Rattle.std.specs.Str.{bytes_eq}
 use Rattle.cg_hjson.specs.declared.tree.Tree.{Tree}
 use Rattle.cg_hjson.specs.declared.tree.Member.{Member}
 use Rattle.cg_finding.specs.Finding.{Among}
-use Rattle.cg_finding.proofs.Members.{flat_map_has, in_flat_map}
-use Rattle.cg_finding.proofs.Membership.{in_map, is_other_text, is_same_text, map_has, other_text, same_text}
+use Rattle.cg_finding.proofs.Membership.{in_map, is_other_text, is_same_text, other_text, same_text}
 use Rattle.cg_keys.specs.Table.{value_at}
 use Rattle.cg_hjson.specs.declared.tree.Kind.{out-Kind}
 use Rattle.cg_hjson.specs.declared.tree.Kind.TheOpen as level
 use Rattle.cg_keys.specs.Values.{Level, array_level, items_of, members_of, object_in, object_level, or_empty}
-use Rattle.cg_blkread.specs.Facts.Parts.{HasAt, HasNot, IsEntry, IsEntryList, sole, member}
+use Rattle.cg_blkread.specs.Facts.Parts.{HasAt, HasNot, IsEntryList, sole, member}
 use Rattle.cg_blkread.specs.Interfaces.{EntryList, entry_lists, first_members, first_members_after, lists_in, lists_of_value}
 
 -- ---- the first members of their keys

@@ -1,5 +1,5 @@
 -- What interfaces together, and `registers` as a whole, break, as lists and as facts.
-use Rattle.std.proofs.Common.{◌≡◌, ℕ, suc, ◌<◌, ◌==◌, Bool, true, false, not, ◌&&◌, ◌||◌, nat_lt, cond, is_some, ◌⊎◌, inl, inr, List, [], ◌∷◌, ◌++◌, map, length, codes, Option, Some, None, refl, sym, ap, ◌∙◌, subst, arith}
+use Rattle.std.proofs.Common.{◌≡◌, ℕ, suc, ◌<◌, ◌==◌, Bool, true, false, not, ◌&&◌, ◌||◌, nat_lt, cond, is_some, ◌⊎◌, inl, inr, List, [], ◌∷◌, ◌++◌, length, codes, Option, Some, None, refl, sym, ap, ◌∙◌, subst, arith}
 use Rattle.std.proofs.lemmas.Bool.{and_from, and_parts, eqb-true, false_from_ne_true, lt-ltb, ltb-true, not_from_false, or_cases, or_left, or_right}
 use Rattle.std.specs.List.{flat_map, list_all, list_any}
 use Rattle.std.specs.Option.{option_map_or}
@@ -7,10 +7,10 @@ use Rattle.std.specs.Str.{bytes_eq}
 use Rattle.cg_desc.specs.declared.place.At.{At}
 use Rattle.cg_hjson.specs.declared.tree.Tree.{Tree}
 use Rattle.cg_hjson.specs.declared.tree.Member.{Member}
-use Rattle.cg_finding.specs.Finding.{Among, Finding, In, finding}
+use Rattle.cg_finding.specs.Finding.{Among, Finding, In}
 use Rattle.cg_finding.specs.Rules.{missing_key, wrong_kind}
 use Rattle.cg_finding.proofs.Members.{flat_map_has, in_either, in_flat_map, in_left, in_right, in_unless, in_when, unless_has, when_has}
-use Rattle.cg_finding.proofs.Membership.{all_pass, any_finds, fails_any, finds_any, in_map, is_same_text, map_has, pass_all, same_text}
+use Rattle.cg_finding.proofs.Membership.{all_pass, any_finds, fails_any, finds_any, is_same_text, pass_all, same_text}
 use Rattle.cg_keys.specs.Forms.{fits, fits_one}
 use Rattle.cg_keys.specs.Lookups.{is_fit_at}
 use Rattle.cg_keys.specs.Table.{value_at}
@@ -20,7 +20,7 @@ use Rattle.cg_keys.specs.declared.forms.Form.TheVariants.{Name, Word}
 use Rattle.cg_keys.specs.declared.words.Words.TheVariants.{Direction}
 use Rattle.cg_blkread.specs.Facts.Interfaces.{AsksForList, BreaksInterfaces, many_devices as many, nameless, one_name, no_list_asked, list_asked, stray_entry, no_list, HasGoodInterfaces, HasStrayEntry, in_list, in_member, IsGoodInterface, TwoHaveOneName}
 use Rattle.cg_blkread.specs.Facts.Parts.{HasAt}
-use Rattle.cg_blkread.specs.Interfaces.{EntryList, asks_for_list, at_value, devices, equal_names, first_members, has_same_names, has_stray_entries, hosts, interface_faults, interface_name, interfaces_are_good, is_entry_less, is_good_interface, many_devices, missing_list, missing_lists, nameless_devices, names_device, same_name, shape_faults}
+use Rattle.cg_blkread.specs.Interfaces.{asks_for_list, at_value, devices, equal_names, first_members, has_same_names, has_stray_entries, hosts, interface_faults, interface_name, interfaces_are_good, is_entry_less, is_good_interface, many_devices, missing_list, missing_lists, nameless_devices, names_device, same_name, shape_faults}
 use Rattle.cg_blkread.proofs.Facts.Entries.{first_is, has_object, is_first, no_items}
 use Rattle.cg_blkread.proofs.Facts.Registers.{in_looked, looked_has, same_some}
 use Rattle.cg_blkread.proofs.Facts.Values.{is_none, none_is}

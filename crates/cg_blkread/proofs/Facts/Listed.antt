@@ -1,25 +1,22 @@
 -- What a block breaks is what is listed.
-use Rattle.std.proofs.Common.{◌≡◌, ℕ, true, is_some, ◌⊎◌, inl, inr, List, [], ◌∷◌, ◌++◌, codes, Option, Some, None, refl, sym, subst}
-use Rattle.std.specs.List.{flat_map}
+use Rattle.std.proofs.Common.{◌≡◌, ℕ, true, is_some, inl, inr, List, [], ◌∷◌, ◌++◌, codes, Some, refl, sym, subst}
 use Rattle.cg_hjson.specs.declared.tree.Tree.{Tree}
 use Rattle.cg_hjson.specs.declared.tree.Member.{Member}
-use Rattle.cg_finding.specs.Finding.{Among, Finding, In, finding, of_least_phase}
-use Rattle.cg_finding.specs.Rules.{outside_the_profile, wrong_kind}
+use Rattle.cg_finding.specs.Finding.{Finding, In, of_least_phase}
 use Rattle.cg_finding.proofs.Members.{flat_map_has, in_flat_map, in_left, in_right}
-use Rattle.cg_keys.specs.Elements.{each_faults, element_faults, elements, list_faults, object_faults}
-use Rattle.cg_keys.specs.Forms.{fits_one, rule_broken}
-use Rattle.cg_keys.specs.Table.{Key, table_faults, value_faults}
-use Rattle.cg_keys.specs.Values.{items_of, members_of, object_in}
+use Rattle.cg_keys.specs.Elements.{elements, list_faults, object_faults}
+use Rattle.cg_keys.specs.Table.{Key, value_faults}
+use Rattle.cg_keys.specs.Values.{members_of, object_in}
 use Rattle.cg_keys.specs.Violations.{BreaksTable}
 use Rattle.cg_keys.specs.declared.forms.Form.{Form}
-use Rattle.cg_keys.specs.declared.forms.Form.TheVariants.{Items, Object}
+use Rattle.cg_keys.specs.declared.forms.Form.TheVariants.{Object}
 use Rattle.cg_keys.proofs.DuplicateKeys.{duplicate_faults_has, in_duplicate_faults}
 use Rattle.cg_keys.proofs.Relation.{in_table_faults, table_faults_has}
-use Rattle.cg_blkread.specs.Facts.Keys.{BreaksKeys, HasForms, HasTable, ListsObjects, ListsOnlyObjects}
-use Rattle.cg_blkread.specs.Facts.Parts.{HasAt, IsFieldOf, IsRegister}
+use Rattle.cg_blkread.specs.Facts.Keys.{BreaksKeys, HasForms, HasTable, ListsOnlyObjects}
+use Rattle.cg_blkread.specs.Facts.Parts.{HasAt, IsRegister}
 use Rattle.cg_blkread.specs.Facts.Profile.{BreaksProfile}
 use Rattle.cg_blkread.specs.Interfaces.{interfaces}
-use Rattle.cg_blkread.specs.Keys.{compact_outside, field_faults, key_faults, mubi_outside, multireg_faults, objects_faults, protocol_outside, register_faults, window_faults}
+use Rattle.cg_blkread.specs.Keys.{compact_outside, field_faults, key_faults, mubi_outside, multireg_faults, protocol_outside, register_faults, window_faults}
 use Rattle.cg_blkread.specs.Reads.{BreaksShape, IsListed, Violates}
 use Rattle.cg_blkread.specs.Reads as reads
 use Rattle.cg_blkread.specs.Tables.{block_keys, copy_keys, field_keys, register_keys, window_keys}

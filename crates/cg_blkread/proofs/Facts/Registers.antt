@@ -1,17 +1,16 @@
 -- What entries break of the rules on keys and the profile, as lists and as facts.
-use Rattle.std.proofs.Common.{◌≡◌, ℕ, ◌<◌, ◌==◌, Bool, true, false, not, ◌&&◌, ◌||◌, nat_lt, cond, is_some, ◌⊎◌, inl, inr, List, [], ◌∷◌, ◌++◌, length, codes, Option, Some, None, option_and_then, refl, sym, ap, ◌∙◌, subst, arith}
-use Rattle.std.proofs.lemmas.Bool.{and_from, and_parts, eqb-true, lt-ltb, ltb-true, not_from_false, or_cases, or_left, or_right}
+use Rattle.std.proofs.Common.{◌≡◌, ℕ, ◌==◌, Bool, true, false, not, ◌&&◌, ◌||◌, nat_lt, cond, is_some, ◌⊎◌, inl, inr, List, [], ◌∷◌, length, codes, Option, Some, None, option_and_then, refl, ap, subst, arith}
+use Rattle.std.proofs.lemmas.Bool.{and_from, and_parts, eqb-true, lt-ltb, ltb-true, or_cases, or_left, or_right}
 use Rattle.std.proofs.lemmas.Option.{option_and_then_some}
-use Rattle.std.specs.List.{flat_map, list_all}
+use Rattle.std.specs.List.{list_all}
 use Rattle.std.specs.Option.{option_map_or, unwrap_or}
 use Rattle.cg_desc.specs.declared.block.SwAccess.{SwAccess}
 use Rattle.cg_desc.specs.declared.block.SwAccess.TheVariants.{Ro, Rw, Wo, Nothing}
-use Rattle.cg_desc.specs.declared.place.At.{At}
 use Rattle.cg_hjson.specs.declared.tree.Tree.{Tree}
 use Rattle.cg_hjson.specs.declared.tree.Member.{Member}
 use Rattle.cg_finding.specs.Finding.{Among, Finding, In, finding}
 use Rattle.cg_finding.specs.Rules.{outside_the_profile, wrong_kind}
-use Rattle.cg_finding.proofs.Members.{flat_map_has, in_either, in_flat_map, in_left, in_right, in_unless, in_when, unless_has, when_has}
+use Rattle.cg_finding.proofs.Members.{in_unless, unless_has}
 use Rattle.cg_finding.proofs.Membership.{all_fails, all_pass, fails_all, pass_all}
 use Rattle.cg_keys.specs.Elements.{element_faults, elements, item_faults, list_faults, object_faults}
 use Rattle.cg_keys.specs.Forms.{boolean_in, fits, fits_one, rule_broken, software}
@@ -20,14 +19,13 @@ use Rattle.cg_keys.specs.Table.{Key, table_faults, value_at, value_faults}
 use Rattle.cg_keys.specs.Values.{array_in, items_of, members_of, object_in, or_empty, text_in}
 use Rattle.cg_keys.specs.Violations.{BreaksTable}
 use Rattle.cg_keys.specs.declared.forms.Form.{Form}
-use Rattle.cg_keys.specs.declared.forms.Form.TheVariants.{Boolean, Items, Object}
+use Rattle.cg_keys.specs.declared.forms.Form.TheVariants.{Boolean, Object}
 use Rattle.cg_keys.proofs.Relation.{in_table_faults, table_faults_has}
 use Rattle.cg_blkread.specs.Bits.{bits_in, width_of}
-use Rattle.cg_blkread.specs.Facts.Parts.{HasAt, HasNot, HasTrueAt}
+use Rattle.cg_blkread.specs.Facts.Parts.{HasAt, HasTrueAt}
 use Rattle.cg_blkread.specs.Facts.Profile.{CannotBeCompact, GatesAreTold, HasFields, HasOtherKind, HasOtherWidth, IsKind, KindCounts, own, of_register, neither}
-use Rattle.cg_blkread.specs.Keys.{compact_outside, fields_are_objects, has_other_kind, has_other_width, kind_that_counts, mubi_outside, outside_if_true, outside_key, register_outside, takes_mubi}
+use Rattle.cg_blkread.specs.Keys.{compact_outside, fields_are_objects, has_other_kind, has_other_width, kind_that_counts, mubi_outside, outside_if_true, outside_key, takes_mubi}
 use Rattle.cg_blkread.specs.declared.raw.Bits.{Bits}
-use Rattle.cg_blkread.proofs.Facts.Entries.{has_object}
 use Rattle.cg_blkread.proofs.Facts.Values.{is_none, none_is}
 
 -- ---- keys that count by their presence, or where they are true

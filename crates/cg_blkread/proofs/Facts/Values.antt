@@ -1,16 +1,15 @@
 -- What a register breaks of the rules on bits and reset values, as lists and as facts.
-use Rattle.std.proofs.Common.{◌≡◌, ℕ, zero, suc, ◌+◌, ◌<◌, ◌≤◌, ◌^◌, ◌/◌, ◌%◌, ◌==◌, Bool, true, false, not, ◌&&◌, nat_le, nat_lt, max, cond, is_some, ◌⊎◌, inl, inr, List, [], ◌∷◌, ◌++◌, codes, Option, Some, None, refl, sym, ap, ◌∙◌, subst, arith}
-use Rattle.std.proofs.lemmas.Bool.{and_from, and_parts, eqb-true, false_from_ne_true, not_from_false, or_cases}
+use Rattle.std.proofs.Common.{◌≡◌, ℕ, zero, suc, ◌+◌, ◌<◌, ◌≤◌, ◌^◌, ◌/◌, ◌%◌, Bool, true, false, not, ◌&&◌, nat_le, nat_lt, max, is_some, inl, inr, List, [], ◌∷◌, ◌++◌, codes, Option, Some, None, refl, sym, ap, subst, arith}
+use Rattle.std.proofs.lemmas.Bool.{and_from, and_parts, eqb-true, not_from_false}
 use Rattle.std.proofs.lemmas.Bool.Decides.{nat_tests}
 use Rattle.std.specs.List.{flat_map, list_all, list_any, range_with_len}
 use Rattle.std.specs.Option.{option_map_or}
 use Rattle.cg_hjson.specs.declared.tree.Tree.{Tree}
-use Rattle.cg_finding.specs.Finding.{Among, Finding, In, each_after, finding}
+use Rattle.cg_finding.specs.Finding.{Among, Finding, In, each_after}
 use Rattle.cg_finding.specs.Rules as rules
 use Rattle.cg_finding.proofs.Members.{each_after_has, flat_map_has, in_each_after, in_either, in_flat_map, in_left, in_right, in_unless, in_when, unless_has, when_has}
 use Rattle.cg_finding.proofs.Membership.{all_pass, any_finds, fails_any, finds_any, pass_all}
 use Rattle.cg_keys.specs.Elements.{elements}
-use Rattle.cg_keys.specs.Lookups.{place_at}
 use Rattle.cg_keys.specs.Table.{value_at}
 use Rattle.cg_keys.specs.Values.{members_of}
 use Rattle.cg_blkread.specs.Bits.{width_of}

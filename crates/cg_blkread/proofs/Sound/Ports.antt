@@ -1,5 +1,5 @@
 -- The clocks, the hosts and the pins of a block of which nothing is found are valid.
-use Rattle.std.proofs.Common.{◌≡◌, ℕ, ◌<◌, ◌≤◌, true, cond, codes, is_some, length, List, [], ◌∷◌, ◌++◌, map, refl, arith}
+use Rattle.std.proofs.Common.{◌≡◌, ℕ, ◌<◌, ◌≤◌, true, codes, length, List, [], ◌∷◌, ◌++◌, map, refl, arith}
 use Rattle.std.proofs.lemmas.List.{length-map}
 use Rattle.cg_svspec.specs.Printable.{AllOf}
 use Rattle.cg_desc.specs.Valid.{AreValidPins, HostsDiffer, IsShortIfAny, IsShortNameIfAny, IsValidClock, IsValidPin}
@@ -13,7 +13,7 @@ use Rattle.cg_keys.specs.Table.{key_faults as table_row, table_faults}
 use Rattle.cg_keys.specs.Values.{members_of}
 use Rattle.cg_keys.specs.declared.forms.Form.TheVariants.{Items}
 use Rattle.cg_blkread.specs.Described.{block_of, clock_desc, face_desc, pin_desc, pins_of}
-use Rattle.cg_blkread.specs.Interfaces.{devices, equal_names, hosts, interface_faults, interface_name, interfaces, interfaces_are_good, is_device, is_host, many_devices, missing_lists, nameless_devices, shape_faults}
+use Rattle.cg_blkread.specs.Interfaces.{devices, equal_names, hosts, interface_faults, interface_name, interfaces_are_good, is_device, is_host, many_devices, missing_lists, nameless_devices, shape_faults}
 use Rattle.cg_blkread.specs.Keys.{key_faults, lengths_faults, objects_faults}
 use Rattle.cg_blkread.specs.Tables.{clocking_keys, pin_keys}
 use Rattle.cg_blkread.proofs.Sound.Empty.{all_from, empty_parts}

@@ -1,5 +1,5 @@
 -- Rules 21 and 22 on interfaces together, and on the shape and the lists of `registers`, as facts on a block's document.
-use Rattle.std.specs.Prelude.{◌≡◌, ◌⊎◌, ◌<◌, ℕ, true, codes, List, [], ◌∷◌, ◌++◌, length, Option, Some, None}
+use Rattle.std.specs.Prelude.{◌≡◌, ◌⊎◌, ◌<◌, ℕ, true, codes, List, [], ◌∷◌, ◌++◌, length, Some, None}
 use Rattle.cg_svspec.specs.Names.{Among}
 use Rattle.cg_hjson.specs.declared.tree.Tree.{Tree}
 use Rattle.cg_hjson.specs.declared.tree.Member.{Member}

@@ -1,5 +1,5 @@
 -- The parts of a block's document, as relations: its lists of entries, its entries, registers and fields.
-use Rattle.std.specs.Prelude.{◌≡◌, ℕ, true, codes, List, Option, Some, None}
+use Rattle.std.specs.Prelude.{◌≡◌, ℕ, true, codes, List, Some, None}
 use Rattle.cg_svspec.specs.Names.{Among}
 use Rattle.cg_hjson.specs.declared.tree.Tree.{Tree}
 use Rattle.cg_hjson.specs.declared.tree.Member.{Member}

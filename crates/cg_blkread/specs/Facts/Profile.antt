@@ -1,10 +1,9 @@
 -- Rule 26: what is asked for is outside the profile, as facts on a block's document.
-use Rattle.std.specs.Prelude.{◌≡◌, ◌⊎◌, ◌<◌, ℕ, true, codes, List, length, Option, Some, None}
+use Rattle.std.specs.Prelude.{◌≡◌, ◌⊎◌, ◌<◌, ℕ, codes, List, length, Some, None}
 use Rattle.cg_svspec.specs.Names.{Among}
 use Rattle.cg_desc.specs.declared.block.SwAccess.{SwAccess}
 use Rattle.cg_desc.specs.declared.block.SwAccess.TheVariants.{Ro, Rw, Wo, Nothing}
 use Rattle.cg_hjson.specs.declared.tree.Tree.{Tree}
-use Rattle.cg_hjson.specs.declared.tree.Member.{Member}
 use Rattle.cg_finding.specs.Finding.{Finding}
 use Rattle.cg_finding.specs.Rules.{outside_the_profile}
 use Rattle.cg_keys.specs.Forms.{boolean_in, number_within, software}

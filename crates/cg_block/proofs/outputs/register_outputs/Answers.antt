@@ -21,5 +21,5 @@ returns c =
     let laid = c.args.unit.now.laid in
     let same = ap (map module_of) c.as_slice.ensures ∙ c.requires.1.modules in
     if_ok _ (AreOutputs (IsRegisterOutput laid)) c.module_outputs.result (λ os told.
-        subst (AreOutputs (IsRegisterOutput laid)) (sym (told ∙ ap (λ ms. put_outputs [] (map module_output ms)) same ∙ ap (put_outputs []) (sym (by_modules laid laid.faces))))
-        (in_order laid (register_texts_differ c.requires.0 c.args.unit.now.tree laid c.requires.1.is_good))) c.module_outputs.ensures
+    subst (AreOutputs (IsRegisterOutput laid)) (sym (told ∙ ap (λ ms. put_outputs [] (map module_output ms)) same ∙ ap (put_outputs []) (sym (by_modules laid laid.faces))))
+    (in_order laid (register_texts_differ c.requires.0 c.args.unit.now.tree laid c.requires.1.is_good))) c.module_outputs.ensures

@@ -20,6 +20,6 @@ pub returns-in-Err : goal.returns-in-Err
 returns-in-Err c =
     let file = some_file c.args.file c.args.before c.args.bytes.now in
     let few : ¬ IsTooLarge c.args.before c.args.bytes.now =
-        (λ large. elim large [ inl many ↦ absurd (omega (arith, c.if-bytes-gt-LIMIT.false)) | inr many ↦ absurd (omega (arith, c.if-bytes-gt-LIMIT.false, c.if-before-bytes.false)) ]) in
+    (λ large. elim large [ inl many ↦ absurd (omega (arith, c.if-bytes-gt-LIMIT.false)) | inr many ↦ absurd (omega (arith, c.if-bytes-gt-LIMIT.false, c.if-before-bytes.false)) ]) in
     let good = subst (IsValidUpTo c.args.bytes.now) (sym c.valid_up_to.ensures) c.in-Err.ensures.cases.1 in
     named _ _ _ _ c.not_utf8.ensures (first_not_utf8 file c.args.bytes.now _ refl few good)

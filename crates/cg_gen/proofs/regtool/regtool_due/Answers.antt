@@ -20,4 +20,4 @@ returns-in_ok-outputs-in-Ok c g given =
 pub returns-in-Err-Fault : goal.returns-in-Err-Fault
 returns-in-Err-Fault c g given =
     if_ok _ (λ due. IsDueFor c.args.made c.args.dir.now (read c.args.file.now g) due) c.fault_due.result
-    (λ d told. fault_told _ _ _ g c.in-Err-Fault.fault _ d c.in-Err-Fault.field-0-is (c.in-Err-Fault.ensures g given) told) c.fault_due.ensures
+    (λ d told. fault_told _ _ _ g c.in-Err-Fault.fault _ d c.in-Err-Fault.field-0-is (c.in-Err-Fault.ensures g given) told) (rw c.in-Err-Fault.field-0-is at c.fault_due.ensures)
