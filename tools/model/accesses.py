@@ -1,7 +1,11 @@
 """The clocks that a register module is tried with: accesses at its rows and beside them, with hardware's inputs."""
-from model.layout import Register
-from model.step import Clock, hardware_ports, target
+import random
 
+from model.layout import Interface, Register, Row
+from model.step import Clock, Input, hardware_ports, target
+
+# write, read, address, strobes
+Access = tuple[int, int, int, int]
 WORD = (1 << 32) - 1
 FEWEST_CLOCKS = 150
 CLOCKS = 400
@@ -9,19 +13,19 @@ CLOCKS_BETWEEN_RESETS = 60
 VALUES = 1_000_000
 
 
-def data_of(chance, width):
+def data_of(chance: random.Random, width: int) -> int:
     """Data of this width; zeros, ones and single bits come often."""
     ones = (1 << width) - 1
     return chance.choice([0, ones, 1 << chance.randrange(width), chance.getrandbits(width), chance.getrandbits(width)])
 
 
-def row_addresses(row, chance):
+def row_addresses(row: Row, chance: random.Random) -> list[int]:
     """Addresses that reach the row."""
     words = {0, row.words - 1, chance.randrange(row.words)}
     return sorted(row.offset + 4 * word for word in words)
 
 
-def unmapped_addresses(interface, chance):
+def unmapped_addresses(interface: Interface, chance: random.Random) -> list[int]:
     """Addresses that reach no row: behind rows and windows, and those of rows with another bit above."""
     addresses = [interface.end, WORD & ~3, chance.getrandbits(32)]
     for row in interface.rows:
@@ -30,7 +34,7 @@ def unmapped_addresses(interface, chance):
     return [address for address in addresses if target(interface, address) is None]
 
 
-def accesses(interface, chance):
+def accesses(interface: Interface, chance: random.Random) -> list[Access]:
     """All accesses that the interface is to be tried with, as (write, read, address, strobes), in a random order."""
     made = []
     for row in interface.rows:
@@ -47,12 +51,12 @@ def accesses(interface, chance):
     return made
 
 
-def clocks(interface, chance):
+def clocks(interface: Interface, chance: random.Random) -> list[Clock]:
     """The clocks of a trial: accesses with resets among them, and a clock without an access to see the last values."""
     ports = hardware_ports(interface)
     inputs = [(width, name) for direction, width, name in ports if direction == "input"]
     most = max(FEWEST_CLOCKS, min(CLOCKS, VALUES // (1 + len(ports))))
-    tried = []
+    tried: list[Access] = []
     while len(tried) < FEWEST_CLOCKS:
         tried += accesses(interface, chance)
     made = []
@@ -65,7 +69,7 @@ def clocks(interface, chance):
     return made
 
 
-def hardware_inputs(inputs, chance):
+def hardware_inputs(inputs: list[Input], chance: random.Random) -> dict[str, int]:
     """What hardware brings in a clock, to no field, to some or to all."""
     busy = chance.choice([0, 0.3, 1])
     return {name: int(chance.random() < busy) if name.endswith("_de") else data_of(chance, width)

@@ -1,12 +1,15 @@
 """Makes crossbars by chance, and changes them so that rules are broken, or just not."""
+import random
+
 from model.faulty import NAMES, NUMBERS, ODD, Changer
 from model.spelling import Spelled
+from model.trees import Json, Object
 
 KEYS = "name clock clock_primary nodes connections type xbar addr_range base_addr size_byte desc".split()
 WORDS = ["host", "device", "a.b", "a.b.c", ".a", "b.", "h0", "d0", "true", "clk"]
 
 
-def random_crossbar(chance):
+def random_crossbar(chance: random.Random) -> Object:
     """A crossbar that breaks no rule."""
     hosts = [chance.choice([f"h{number}", f"h{number}.data"]) for number in range(chance.choice([0, 1, 1, 2, 3, 5]))]
     devices = [chance.choice([f"d{number}", f"d{number}.regs"]) for number in range(chance.choice([1, 2, 3, 6]))]
@@ -19,8 +22,9 @@ def random_crossbar(chance):
     return {"name": "x", clock: "clk", "nodes": nodes, "connections": joined}
 
 
-def random_node(name, kind, chance):
-    node = {"name": name, "type": kind}
+def random_node(name: str, kind: str, chance: random.Random) -> Object:
+    """A node of this name and type, `host` or `device`, whose other keys are there by chance."""
+    node: Object = {"name": name, "type": kind}
     if chance.random() < 0.5:
         node["clock"] = chance.choice(["clk", "aon", "io"])
     if chance.random() < 0.2:
@@ -34,50 +38,55 @@ def random_node(name, kind, chance):
 class CrossbarChanger(Changer):
     """Changes one crossbar; chance decides what."""
 
-    def value(self):
+    def value(self) -> Json:
+        """A value of any kind, now and then a name of a crossbar's part."""
         odd = Spelled(self.chance.choice(ODD))
         return self.chance.choice([self.chance.choice(NUMBERS), self.chance.choice(NAMES), self.chance.choice(WORDS), odd, True, False])
 
-    def add(self):
+    def add(self) -> None:
+        """A known key of crossbars with some value."""
         self.some(dict)[self.chance.choice(KEYS)] = self.value()
 
-    def connections(self):
+    def connections(self) -> Object:
+        """The object of connections, or an empty one in its place."""
         joined = self.whole.get("connections")
         return joined if isinstance(joined, dict) else {}
 
-    def node_name(self):
+    def node_name(self) -> str:
         """The name of a node, or one that no node has."""
         names = [holder["name"] for holder in self.named()]
         return self.chance.choice([*names, "q"])
 
-    def connect(self):
+    def connect(self) -> None:
         """A connection with some key, of which some elements may come twice."""
         self.connections()[self.node_name()] = [self.node_name() for _ in range(self.chance.choice([0, 1, 2, 3]))]
 
-    def lengthen(self):
+    def lengthen(self) -> None:
         """An element more in a connection."""
         lists = [listed for listed in self.connections().values() if isinstance(listed, list)]
         if lists:
             self.chance.choice(lists).append(self.node_name())
 
-    def disconnect(self):
+    def disconnect(self) -> None:
+        """A connection less."""
         key = self.key_in(self.connections())
         if key is not None:
             del self.connections()[key]
 
-    def copy_node(self):
+    def copy_node(self) -> None:
         """A node once more, or very many of them."""
         nodes = self.whole.get("nodes")
         if isinstance(nodes, list) and nodes:
             node = self.chance.choice(nodes)
             nodes += [dict(node) if isinstance(node, dict) else node for _ in range(self.chance.choice([1, 1, 1, 70]))]
 
-    def other_type(self):
+    def other_type(self) -> None:
+        """The type of a node, chosen again."""
         node = self.some(dict, "type")
         if node is not None:
             node["type"] = self.chance.choice(["host", "device"])
 
-    def changed(self, count):
+    def changed(self, count: int) -> Object:
         """The crossbar after so many changes."""
         changes = [self.replace, self.remove, self.add, self.double, self.rename, self.connect, self.lengthen, self.disconnect,
                    self.copy_node, self.other_type]

@@ -1,27 +1,30 @@
 """What a crossbar's description breaks, and what it says with its parts and clocks, after docs/FORMATS.md."""
-from model import document
-from model.forms import (BOOLEAN, LIST, NAME, NUMBER, OBJECT, TEXT, boolean, elements, is_name, length, listed, number,
-                         of_list, of_table, one_of, repeated, text, unfit)
+from model.document import Member, Value, read
+from model.forms import (BOOLEAN, LIST, NAME, NUMBER, OBJECT, TEXT, Broken, Table, boolean, elements, is_name, length,
+                         listed, number, of_list, of_table, one_of, repeated, text, unfit)
 
-NODE = {"name": [TEXT], "type": [one_of("host", "device")], "clock": [None, NAME], "xbar": [None, BOOLEAN],
-        "addr_range": [None, LIST]}
-RANGE = {"base_addr": [NUMBER], "size_byte": [("number", 0, 1 << 32)]}
+NODE: Table = {
+    "name": [TEXT], "type": [one_of("host", "device")], "clock": [None, NAME], "xbar": [None, BOOLEAN],
+    "addr_range": [None, LIST],
+}
+RANGE: Table = {"base_addr": [NUMBER], "size_byte": [("number", 0, 1 << 32)]}
 PHRASES = {20: "duplicate key", 21: "missing key", 22: "wrong kind", 24: "not a number", 25: "bad name",
            50: "node twice", 51: "unknown node", 52: "host without device", 53: "device without host"}
 
 
-def clock_key(crossbar):
+def clock_key(crossbar: Value) -> str:
     """The key that tells the crossbar's clock."""
     alone = crossbar.member("clock") is None and crossbar.member("clock_primary") is not None
     return "clock_primary" if alone else "clock"
 
 
-def is_node_name(name):
+def is_node_name(name: str) -> bool:
+    """Whether the name is one name of at most 40 characters, or two with a dot between them."""
     parts = name.split(".")
     return len(parts) <= 2 and all(is_name(part, 40) for part in parts)
 
 
-def node_keys(node):
+def node_keys(node: Value) -> list[Broken]:
     """What a node breaks of the rules on keys, kinds and names."""
     if node.kind != "object":
         return []
@@ -34,14 +37,15 @@ def node_keys(node):
     return broken
 
 
-def connections(crossbar):
+def connections(crossbar: Value) -> list[Member]:
     """The first members of each key of the object of connections."""
     value = crossbar.member("connections")
     return value.first_members() if value is not None and value.kind == "object" else []
 
 
-def crossbar_keys(crossbar):
-    table = {"name": [NAME], clock_key(crossbar): [NAME], "nodes": [LIST], "connections": [OBJECT]}
+def crossbar_keys(crossbar: Value) -> list[Broken]:
+    """What a crossbar breaks of the rules on keys, kinds and names."""
+    table: Table = {"name": [NAME], clock_key(crossbar): [NAME], "nodes": [LIST], "connections": [OBJECT]}
     broken = repeated(crossbar) + of_table(crossbar, table)
     broken += elements(crossbar, "nodes") + length(crossbar, "nodes", 0, 64)
     for node in listed(crossbar, "nodes"):
@@ -51,11 +55,12 @@ def crossbar_keys(crossbar):
     return broken
 
 
-def named(crossbar, kind):
+def named(crossbar: Value, kind: str) -> set[str | None]:
+    """The names of the nodes of this type, `host` or `device`."""
     return {text(node, "name") for node in listed(crossbar, "nodes") if text(node, "type") == kind}
 
 
-def crossbar_nodes(crossbar):
+def crossbar_nodes(crossbar: Value) -> list[Broken]:
     """What nodes and connections break, where no rule on keys is broken."""
     hosts, devices = named(crossbar, "host"), named(crossbar, "device")
     joined = {key: [item.data for item in value.data] for key, _, value in connections(crossbar)}
@@ -82,7 +87,8 @@ def crossbar_nodes(crossbar):
     return broken
 
 
-def shown_node(crossbar, node, numbers):
+def shown_node(crossbar: Value, node: Value, numbers: dict[str | None, int]) -> str:
+    """A node's line in the description; `numbers` are the places of the nodes by their names."""
     kind, name = text(node, "type"), text(node, "name")
     words = [kind, name, text(node, "clock") or text(crossbar, clock_key(crossbar))]
     words += ["crossbar"] if boolean(node.member("xbar")) else []
@@ -93,11 +99,11 @@ def shown_node(crossbar, node, numbers):
     return " ".join(words)
 
 
-def parts(crossbar):
+def parts(crossbar: Value) -> list[str]:
     """The parts: those of the hosts, then those of the devices, each in the order of the nodes."""
     own = text(crossbar, clock_key(crossbar))
     fed = [item.data for _, _, value in connections(crossbar) for item in value.data]
-    made = {"host": [], "device": []}
+    made: dict[str, list[str]] = {"host": [], "device": []}
     for place, node in enumerate(listed(crossbar, "nodes")):
         kind, crosses = text(node, "type"), text(node, "clock") not in (None, own)
         if kind == "host":
@@ -109,9 +115,9 @@ def parts(crossbar):
     return made["host"] + made["device"]
 
 
-def answer(given):
+def answer(given: str) -> str:
     """The line of the first fault, or the description with its parts and clocks."""
-    crossbar, _ = document.read(given)
+    crossbar, _ = read(given)
     if crossbar is None:
         return "no document"
     broken = crossbar_keys(crossbar) or crossbar_nodes(crossbar)

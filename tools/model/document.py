@@ -1,6 +1,9 @@
 """Reads a description's text, character by character, after docs/FORMATS.md: values with their places, or a failure."""
+from __future__ import annotations
+
 import dataclasses
 import re
+from typing import NoReturn
 
 BLANKS = " \t\n\r"
 ENDS_OF_KEYS = ",:[]{}"
@@ -13,7 +16,8 @@ DEEPEST = 64
 class NotDocument(Exception):
     """The text is no document; `place` is the character behind the longest beginning of one."""
 
-    def __init__(self, place):
+    def __init__(self, place: int) -> None:
+        """The failure at this place, in characters from the text's start."""
         super().__init__(place)
         self.place = place
 
@@ -22,42 +26,50 @@ class NotDocument(Exception):
 class Value:
     """A value: `kind` is null, bool, int, str, list or object. An object's data are its members: key, place, value."""
     kind: str
-    data: object
+    data: list[Member] | list[Value] | str | int | bool | None
     place: int
 
-    def member(self, key):
+    def member(self, key: str) -> Value | None:
         """The value of the first member with this key; None where there is none, or this is no object."""
         if self.kind != "object":
             return None
         return next((value for name, _, value in self.data if name == key), None)
 
-    def items(self):
+    def items(self) -> list[Value]:
         """The elements of a list; any other value has none."""
         return self.data if self.kind == "list" else []
 
-    def first_members(self):
+    def first_members(self) -> list[Member]:
         """The members of an object but for those whose key an earlier one has."""
         if self.kind != "object":
             return []
-        seen = {}
+        seen: dict[str, Member] = {}
         for name, place, value in self.data:
             seen.setdefault(name, (name, place, value))
         return list(seen.values())
 
 
+# a member of an object: its key, the place of the key, and its value
+Member = tuple[str, int, Value]
+
+
 class Reader:
     """Reads one text. `deep` is the place of the first opener that stands deeper than is allowed."""
 
-    def __init__(self, text):
-        self.text, self.at, self.deep = text, 0, None
+    def __init__(self, text: str) -> None:
+        """A reader at the start of the text."""
+        self.text, self.at = text, 0
+        self.deep: int | None = None
 
-    def here(self, count=1):
+    def here(self, count: int = 1) -> str:
+        """The next characters, so many or what is left of them; they are not taken."""
         return self.text[self.at:self.at + count]
 
-    def fail(self, place=None):
+    def fail(self, place: int | None = None) -> NoReturn:
+        """Fails at this place, or here; never behind the text's end."""
         raise NotDocument(min(self.at if place is None else place, len(self.text)))
 
-    def line_end(self):
+    def line_end(self) -> None:
         """Takes the line end that begins here: a carriage return must have its line feed."""
         if self.here() == "\r":
             self.at += 1
@@ -65,13 +77,13 @@ class Reader:
             self.fail()
         self.at += 1
 
-    def plain(self):
+    def plain(self) -> None:
         """Takes a character that may stand in comments and strings; a tab may, other control characters may not."""
         if not self.here() or (self.here() < " " and self.here() != "\t"):
             self.fail()
         self.at += 1
 
-    def gap(self):
+    def gap(self) -> None:
         """Takes blanks and comments."""
         while True:
             if self.here() in ("\r", "\n"):
@@ -86,7 +98,8 @@ class Reader:
             else:
                 return
 
-    def comment(self):
+    def comment(self) -> None:
+        """Takes a comment between `/*` and `*/`."""
         self.at += 2
         while self.here(2) != "*/":
             if self.here() in ("\r", "\n"):
@@ -95,11 +108,12 @@ class Reader:
                 self.plain()
         self.at += 2
 
-    def no_slash(self):
+    def no_slash(self) -> NoReturn:
         """Fails here; a slash could have begun a comment, so the place is behind it."""
         self.fail(self.at + (self.here() == "/"))
 
-    def document(self):
+    def document(self) -> Value:
+        """Takes the whole text, which is one object among blanks and comments."""
         self.gap()
         if self.here() != "{":
             self.no_slash()
@@ -109,19 +123,22 @@ class Reader:
             self.no_slash()
         return root
 
-    def opener(self, depth):
+    def opener(self, depth: int) -> None:
+        """Takes the opener of an object or list, which stands at this depth, and the gap behind it."""
         if depth > DEEPEST and self.deep is None:
             self.deep = self.at
         self.at += 1
         self.gap()
 
-    def comma(self):
+    def comma(self) -> None:
+        """Takes the gap behind a member or element, and the comma in it if there is one."""
         self.gap()
         if self.here() == ",":
             self.at += 1
             self.gap()
 
-    def object(self, depth):
+    def object(self, depth: int) -> Value:
+        """Takes an object at this depth; the root's is 1."""
         place, members = self.at, []
         self.opener(depth)
         while self.here() != "}":
@@ -137,7 +154,8 @@ class Reader:
         self.at += 1
         return Value("object", members, place)
 
-    def list(self, depth):
+    def list(self, depth: int) -> Value:
+        """Takes a list at this depth."""
         place, items = self.at, []
         self.opener(depth)
         while self.here() != "]":
@@ -146,7 +164,8 @@ class Reader:
         self.at += 1
         return Value("list", items, place)
 
-    def key(self):
+    def key(self) -> str:
+        """Takes a key, in quotes or without them."""
         if self.here() in ("'", '"'):
             return self.quoted()
         start = self.at
@@ -156,7 +175,8 @@ class Reader:
             self.fail()
         return self.text[start:self.at]
 
-    def value(self, depth):
+    def value(self, depth: int) -> Value:
+        """Takes a value in an object or list of this depth; without quotes it is a literal, or the rest of its line."""
         place, first = self.at, self.here()
         if first == "{":
             return self.object(depth + 1)
@@ -175,7 +195,7 @@ class Reader:
             self.plain()
         return Value("str", self.text[place:self.at].rstrip(" \t"), place)
 
-    def literal(self):
+    def literal(self) -> tuple[str, bool | int | str | None] | None:
         """Takes a literal that is closed: its kind and its value."""
         for word, kind, value in [("true", "bool", True), ("false", "bool", False), ("null", "null", None)]:
             if self.text.startswith(word, self.at) and CLOSED.match(self.text, self.at + len(word)):
@@ -189,7 +209,8 @@ class Reader:
             return "str", found[0]
         return "int", int(found[0])
 
-    def quoted(self):
+    def quoted(self) -> str:
+        """Takes a string in single or double quotes."""
         quote, made = self.here(), []
         self.at += 1
         while self.here() != quote:
@@ -202,7 +223,8 @@ class Reader:
         self.at += 1
         return "".join(made)
 
-    def escape(self):
+    def escape(self) -> str:
+        """Takes what follows a backslash: the character that it stands for."""
         letter = self.here()
         if letter == "u":
             self.at += 1
@@ -212,13 +234,14 @@ class Reader:
         self.at += 1
         return ESCAPES[letter]
 
-    def digit(self, allowed="0123456789abcdefABCDEF"):
+    def digit(self, allowed: str = "0123456789abcdefABCDEF") -> str:
+        """Takes one of the allowed characters, if left out a hexadecimal digit."""
         if not self.here() or self.here() not in allowed:
             self.fail()
         self.at += 1
         return self.text[self.at - 1]
 
-    def unit(self):
+    def unit(self) -> str:
         """The character of `\\uXXXX`, or of two of these that are a surrogate pair."""
         first = self.digit()
         second = self.digit("01234567" + "89abAB") if first in "dD" else self.digit()
@@ -230,7 +253,7 @@ class Reader:
         low = int(self.digit("dD") + self.digit("cdefCDEF") + self.digit() + self.digit(), 16)
         return chr(0x10000 + ((code - 0xD800) << 10) + low - 0xDC00)
 
-    def lines(self):
+    def lines(self) -> str:
         """A string of several lines between triple quotes."""
         margin = self.at - (self.text.rfind("\n", 0, self.at) + 1)
         self.at += 3
@@ -248,7 +271,7 @@ class Reader:
         return made.removesuffix("\n")
 
 
-def read(text):
+def read(text: str) -> tuple[Value, None] | tuple[None, tuple[int, int]]:
     """The text's root; or the rule that it breaks, 15 or 16, and the place. Places count characters."""
     reader = Reader(text)
     try:

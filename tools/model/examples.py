@@ -1,9 +1,10 @@
 """The blocks of examples/, written again by hand as Python data."""
+from model.trees import Json, Object
 
-CLOCKING = [{"clock": "clk_i", "reset": "rst_ni"}]
-DEVICE = [{"protocol": "tlul", "direction": "device"}]
+CLOCKING: list[Json] = [{"clock": "clk_i", "reset": "rst_ni"}]
+DEVICE: list[Json] = [{"protocol": "tlul", "direction": "device"}]
 
-BRIDGE = {
+BRIDGE: Object = {
     "name": "bridge", "clocking": CLOCKING + [{"clock": "clk_far_i", "reset": "rst_far_ni"}],
     "bus_interfaces": [
         {"protocol": "tlul", "direction": "device", "name": "near"},
@@ -19,7 +20,7 @@ BRIDGE = {
     },
 }
 
-GPIO = {
+GPIO: Object = {
     "name": "gpio", "clocking": CLOCKING, "bus_interfaces": DEVICE,
     "interrupt_list": [{"name": "gpio", "width": 32}], "alert_list": [{"name": "fatal_fault"}],
     "registers": [
@@ -32,7 +33,7 @@ GPIO = {
     ],
 }
 
-INTC = {
+INTC: Object = {
     "name": "intc", "clocking": CLOCKING, "bus_interfaces": DEVICE,
     "registers": [
         {"multireg": {"name": "PRIO_REGWEN", "count": 4, "compact": False, "swaccess": "rw0c", "hwaccess": "none",
@@ -48,7 +49,7 @@ INTC = {
     ],
 }
 
-TIMER = {
+TIMER: Object = {
     "name": "timer", "clocking": CLOCKING, "bus_interfaces": DEVICE,
     "param_list": [{"name": "NumCompare", "default": 12}], "interrupt_list": [{"name": "expired"}],
     "registers": [
@@ -61,7 +62,7 @@ TIMER = {
     ],
 }
 
-UART = {
+UART: Object = {
     "name": "uart", "clocking": CLOCKING, "bus_interfaces": DEVICE,
     "interrupt_list": [{"name": "tx_empty", "type": "status"}, {"name": "rx_over"}],
     "alert_list": [{"name": "fatal_fault"}],
@@ -76,4 +77,4 @@ UART = {
     ],
 }
 
-EXAMPLES = {"bridge": BRIDGE, "gpio": GPIO, "intc": INTC, "timer": TIMER, "uart": UART}
+EXAMPLES: dict[str, Object] = {"bridge": BRIDGE, "gpio": GPIO, "intc": INTC, "timer": TIMER, "uart": UART}

@@ -4,6 +4,15 @@ What is broken is told as (phase, place, rule, name); the least of them is the f
 """
 import re
 
+from model.document import Value
+
+# the kind of a form, with its limits or words
+Form = tuple[str] | tuple[str, int] | tuple[str, int, int] | tuple[str, frozenset[str]]
+# the forms of each key; the first is None where the key may be absent
+Table = dict[str, list[Form | None]]
+# phase, place, rule, name
+Broken = tuple[int, int, int, str]
+
 WORD = re.compile(r"[A-Za-z_][A-Za-z0-9_]*")
 QUOTED = {"module", "endmodule", "input", "output", "wire", "assign"}
 DECIMAL = re.compile(r"[0-9]+(_[0-9]+)*")
@@ -17,11 +26,12 @@ TEXT, BOOLEAN, LIST, OBJECT = ("text",), ("boolean",), ("list",), ("object",)
 NUMBER = ("number", 0, WORD_MOST)
 
 
-def one_of(*words):
+def one_of(*words: str) -> Form:
+    """The form of a string that is one of these words."""
     return ("word", frozenset(words))
 
 
-def number(value):
+def number(value: Value | None) -> int | None:
     """The number that a value is, if it is one of at most 128 bits."""
     if value is None:
         return None
@@ -37,7 +47,7 @@ def number(value):
     return None
 
 
-def boolean(value):
+def boolean(value: Value | None) -> bool | None:
     """The truth of a value: `true` or `false`, or one of these as a string."""
     if value is None:
         return None
@@ -46,11 +56,13 @@ def boolean(value):
     return {"true": True, "false": False}.get(value.data) if value.kind == "str" else None
 
 
-def is_name(text, most):
+def is_name(text: str, most: int) -> bool:
+    """Whether the text is a name of at most so many characters, and none of the quoted words."""
     return bool(WORD.fullmatch(text)) and len(text) <= most and text not in QUOTED
 
 
-def fits(value, form):
+def fits(value: Value, form: Form) -> bool:
+    """Whether the value has the form."""
     kind, *limits = form
     if kind == "number":
         found = number(value)
@@ -66,13 +78,13 @@ def fits(value, form):
     return kind == "text" or value.data in limits[0]
 
 
-def takes(value, form):
+def takes(value: Value, form: Form) -> bool:
     """Whether the form has values of this value's kind in Hjson."""
     kinds = {"number": {"int", "str"}, "boolean": {"bool", "str"}, "list": {"list"}, "object": {"object"}}
     return value.kind in kinds.get(form[0], {"str"})
 
 
-def unfit(key, value, *forms):
+def unfit(key: str, value: Value, *forms: Form) -> list[Broken]:
     """What a value breaks that has none of these forms."""
     if any(fits(value, form) for form in forms):
         return []
@@ -87,13 +99,13 @@ def unfit(key, value, *forms):
     return [(2, value.place, rule, key)]
 
 
-def is_fit(holder, key, *forms):
+def is_fit(holder: Value, key: str, *forms: Form) -> bool:
     """Whether the key is absent, or its value has one of the forms."""
     value = holder.member(key)
     return value is None or any(fits(value, form) for form in forms)
 
 
-def of_table(holder, table):
+def of_table(holder: Value, table: Table) -> list[Broken]:
     """What an object breaks of a table of keys with their forms; the first is None where the key may be absent."""
     if holder.kind != "object":
         return []
@@ -107,36 +119,38 @@ def of_table(holder, table):
     return broken
 
 
-def elements(holder, key, form=OBJECT):
+def elements(holder: Value, key: str, form: Form = OBJECT) -> list[Broken]:
     """The list at a key has an element that has not this form."""
     value = holder.member(key)
     return of_list(key, value, form) if value is not None else []
 
 
-def of_list(key, value, form):
+def of_list(key: str, value: Value, form: Form) -> list[Broken]:
+    """A list, which stands at this key, has an element that has not this form."""
     return [(2, value.place, 22, key)] if not all(fits(item, form) for item in value.items()) else []
 
 
-def length(holder, key, least, most):
+def length(holder: Value, key: str, least: int, most: int) -> list[Broken]:
+    """The list at a key has fewer or more elements than it may have."""
     value = holder.member(key)
     if value is None or value.kind != "list" or least <= len(value.data) <= most:
         return []
     return [(2, value.place, 22, key)]
 
 
-def listed(holder, key):
+def listed(holder: Value, key: str) -> list[Value]:
     """The elements of the list at a key."""
     value = holder.member(key)
     return [] if value is None else value.items()
 
 
-def text(holder, key):
+def text(holder: Value, key: str) -> str | None:
     """The string at a key."""
     value = holder.member(key)
     return value.data if value is not None and value.kind == "str" else None
 
 
-def repeated(value):
+def repeated(value: Value) -> list[Broken]:
     """Keys that stand twice in an object, anywhere below."""
     if value.kind == "list":
         return [broken for item in value.data for broken in repeated(item)]

@@ -1,14 +1,17 @@
 """A block's completed description, after docs/FORMATS.md: its tree with everything said, as JSON."""
 import json
+from collections.abc import Callable
 
+from model.document import Value
 from model.forms import boolean, listed, number, text
 from model.keys import KNOWN_BY, LISTS, span
-from model.rules import fields_of, mask_of
+from model.rules import Field, fields_of, mask_of
+from model.trees import Json, Object
 
 REGISTER_SWITCHES = ["hwext", "hwqe", "hwre"]
 
 
-def plain(value):
+def plain(value: Value) -> Json:
     """A value as Python data, as it stands."""
     if value.kind == "list":
         return [plain(item) for item in value.data]
@@ -17,7 +20,7 @@ def plain(value):
     return value.data
 
 
-def put_number(made, holder, key, default=None):
+def put_number(made: Object, holder: Value, key: str, default: int | None = None) -> None:
     """The number at a key in its plain form; a name that stands there stays."""
     found = number(holder.member(key))
     if found is not None:
@@ -26,35 +29,38 @@ def put_number(made, holder, key, default=None):
         made[key] = default
 
 
-def put_boolean(made, holder, key, default=False):
+def put_boolean(made: Object, holder: Value, key: str, default: bool = False) -> None:
+    """The boolean at a key, or the default where there is none."""
     found = boolean(holder.member(key))
     made[key] = default if found is None else found
 
 
-def full_list(holder, key, full):
+def full_list(holder: Value, key: str, full: Callable[[Value], Json]) -> list[Json]:
     """The elements of the list at a key, completed."""
     return [full(item) for item in listed(holder, key)]
 
 
-def sized(item):
+def sized(item: Value) -> Object:
     """A pin, or an interrupt."""
     made = plain(item)
     put_number(made, item, "width", 1)
     return made
 
 
-def interrupt(item):
+def interrupt(item: Value) -> Object:
+    """An interrupt with its type and width."""
     return {"type": "event"} | sized(item)
 
 
-def parameter(item):
+def parameter(item: Value) -> Object:
+    """A parameter; a default of at most 32 bits is in its plain form."""
     made, found = plain(item), number(item.member("default"))
     if found is not None and found < 1 << 32:
         made["default"] = found
     return made
 
 
-def reset_of(register, field, held):
+def reset_of(register: Value, field: Field, held: Value) -> int:
     """A field's own reset value, or its bits of the register's, or 0."""
     value = held.member("resval")
     if value is None:
@@ -68,14 +74,16 @@ def reset_of(register, field, held):
     return (6 if boolean(value) else 9) if field.mubi else int(boolean(value))
 
 
-def full_field(register, field, held):
+def full_field(register: Value, field: Field, held: Value) -> Object:
+    """A field, as it is written in `held`, with its name, its kinds of access and its reset value."""
     made = plain(held)
     high, low = span(held.member("bits"))
     return made | {"bits": f"{high}:{low}", "name": field.name, "mubi": field.mubi, "swaccess": field.software,
                    "hwaccess": field.hardware, "resval": reset_of(register, field, held)}
 
 
-def full_register(register):
+def full_register(register: Value) -> Object:
+    """A register with its kinds of access, its switches and its fields."""
     made = {"swaccess": "none", "hwaccess": "hro"} | plain(register)
     for key in REGISTER_SWITCHES:
         put_boolean(made, register, key)
@@ -87,7 +95,8 @@ def full_register(register):
     return made
 
 
-def full_multireg(multireg):
+def full_multireg(multireg: Value) -> Object:
+    """A multireg, which has its count and its own switches beside what a register has."""
     made = full_register(multireg)
     put_number(made, multireg, "count")
     put_boolean(made, multireg, "regwen_multi")
@@ -95,14 +104,16 @@ def full_multireg(multireg):
     return made
 
 
-def full_window(window):
+def full_window(window: Value) -> Object:
+    """A window with its kind of access, its items and its switch."""
     made = {"swaccess": "rw"} | plain(window)
     put_number(made, window, "items")
     put_boolean(made, window, "byte-write")
     return made
 
 
-def full_entry(entry):
+def full_entry(entry: Value) -> Object:
+    """An entry of a list of registers, by its kind."""
     known = next((key for key in KNOWN_BY if entry.member(key) is not None), None)
     if known is None:
         return full_register(entry)
@@ -112,7 +123,7 @@ def full_entry(entry):
     return made
 
 
-def full_block(block):
+def full_block(block: Value) -> Object:
     """The block with everything said, as Python data."""
     made = plain(block)
     fulls = {"interrupt_list": interrupt, "alert_list": plain, "param_list": parameter}
@@ -129,6 +140,6 @@ def full_block(block):
     return made
 
 
-def completed_text(block):
+def completed_text(block: Value) -> tuple[str, str]:
     """The name of the file without its ending, and its text."""
     return text(block, "name"), json.dumps(full_block(block), indent=2, sort_keys=True, ensure_ascii=False) + "\n"

@@ -1,10 +1,11 @@
 """Has compilers of C and C++ read a block's header, with each of its constants in use."""
 import collections
+import pathlib
 import re
 import shutil
 import subprocess
 
-from model.simulation import Mismatch, SECONDS, run
+from model.simulation import Counts, Mismatch, SECONDS, run
 
 CONSTANT = re.compile(r"^#define (\w+) \w+$", re.MULTILINE)
 LANGUAGES = {"cc": "c", "c++": "c++"}
@@ -12,12 +13,12 @@ WARNINGS = ["-Wall", "-Wextra", "-Wpedantic", "-Werror"]
 USAGE_STATUS = 2
 
 
-def compilers():
+def compilers() -> list[str]:
     """The compilers that are there, in the order in which they are tried."""
     return [name for name in LANGUAGES if shutil.which(name)]
 
 
-def written_header(program, block, folder):
+def written_header(program: str, block: str, folder: pathlib.Path) -> pathlib.Path | None:
     """The path of the header that the program writes for a block; None where it answers that it has no such command."""
     path = folder / f"{block}_regs.h"
     words = [program, "regtool", "-D", "-t", ".", f"{block}.hjson"]
@@ -29,7 +30,7 @@ def written_header(program, block, folder):
     return path
 
 
-def source_of(header, constants):
+def source_of(header: str, constants: list[str]) -> str:
     """A source that includes the header twice, and uses each constant."""
     values = "".join(f"  {name},\n" for name in constants)
     return (f'#include "{header}"\n' * 2
@@ -37,7 +38,7 @@ def source_of(header, constants):
             + f"const unsigned long long values[{len(constants)}] = {{\n{values}}};\n")
 
 
-def compile_header(path, folder):
+def compile_header(path: pathlib.Path, folder: pathlib.Path) -> Counts:
     """Counts the compilers that take the header, and its constants."""
     constants = CONSTANT.findall(path.read_text())
     if not constants:
@@ -49,7 +50,7 @@ def compile_header(path, folder):
     return collections.Counter(compilers(), constants=len(constants))
 
 
-def try_header(program, block, folder):
+def try_header(program: str, block: str, folder: pathlib.Path) -> Counts:
     """Counts what is tried at a block's header, or that the program does not write one."""
     path = written_header(program, block, folder)
     if path is None:
@@ -57,7 +58,7 @@ def try_header(program, block, folder):
     return collections.Counter(headers=1) + compile_header(path, folder)
 
 
-def report_headers(counts):
+def report_headers(counts: Counts) -> None:
     """Prints what was tried at headers, and what was skipped."""
     if counts["headers not written"]:
         print(f"headers: skipped at {counts['headers not written']} blocks, the program does not write them yet")

@@ -1,41 +1,47 @@
 """What a block breaks of the rules on keys, kinds and the profile, after docs/FORMATS.md."""
 import re
 
-from model import document
-from model.forms import (BOOLEAN, HARDWARE, LIST, LONG_NAME, NAME, NUMBER, OBJECT, SOFTWARE, TEXT, boolean, elements,
-                         fits, is_fit, length, listed, number, of_list, of_table, one_of, repeated, text, unfit)
+from model.document import Value
+from model.forms import (BOOLEAN, HARDWARE, LIST, LONG_NAME, NAME, NUMBER, OBJECT, SOFTWARE, TEXT, Broken, Table,
+                         boolean, elements, fits, is_fit, length, listed, number, of_list, of_table, one_of, repeated,
+                         text, unfit)
 
 BITS = re.compile(r"([0-9]+):([0-9]+)")
 PINS = ["available_input_list", "available_output_list", "available_inout_list"]
 LISTS = ["interrupt_list", "alert_list", "param_list", *PINS]
-BLOCK = {
+BLOCK: Table = {
     "name": [NAME], "clocking": [LIST], "bus_interfaces": [LIST], "registers": [LIST, OBJECT],
     **{key: [None, LIST] for key in LISTS},
     "no_auto_intr_regs": [None, BOOLEAN], "no_auto_alert_regs": [None, BOOLEAN], "regwidth": [None, NUMBER],
 }
-PIN = {"name": [NAME], "width": [None, ("number", 1, 64)]}
-OF_LISTS = {
+PIN: Table = {"name": [NAME], "width": [None, ("number", 1, 64)]}
+OF_LISTS: dict[str, Table] = {
     "clocking": {"clock": [NAME], "reset": [None, NAME]},
     "bus_interfaces": {"protocol": [TEXT], "direction": [one_of("device", "host")], "name": [None, NAME]},
     "interrupt_list": {"name": [NAME], "type": [None, one_of("event", "status")], "width": [None, ("number", 1, 32)]},
     "alert_list": {"name": [NAME]}, "param_list": {"name": [LONG_NAME], "default": [None, NUMBER, TEXT]},
     **{key: PIN for key in PINS},
 }
-REGISTER = {
+REGISTER: Table = {
     "name": [NAME], "swaccess": [None, one_of(*SOFTWARE)], "hwaccess": [None, one_of(*HARDWARE)],
     "hwext": [None, BOOLEAN], "hwqe": [None, BOOLEAN], "hwre": [None, BOOLEAN], "regwen": [None, TEXT],
     "resval": [None, NUMBER, BOOLEAN], "fields": [LIST],
 }
-MULTIREG = REGISTER | {"count": [NUMBER, LONG_NAME], "cname": [None, TEXT], "regwen_multi": [None, BOOLEAN],
-                       "compact": [None, BOOLEAN]}
-WINDOW = {"name": [NAME], "items": [NUMBER, LONG_NAME], "byte-write": [None, BOOLEAN],
-          "swaccess": [None, one_of("rw", "ro", "wo")]}
-FIELD = {"bits": [TEXT, NUMBER], "name": [None, NAME], "swaccess": [None, one_of(*SOFTWARE)],
-         "hwaccess": [None, one_of(*HARDWARE)], "resval": [None, NUMBER, BOOLEAN, one_of("x")], "mubi": [None, BOOLEAN]}
+MULTIREG: Table = REGISTER | {
+    "count": [NUMBER, LONG_NAME], "cname": [None, TEXT], "regwen_multi": [None, BOOLEAN], "compact": [None, BOOLEAN],
+}
+WINDOW: Table = {
+    "name": [NAME], "items": [NUMBER, LONG_NAME], "byte-write": [None, BOOLEAN],
+    "swaccess": [None, one_of("rw", "ro", "wo")],
+}
+FIELD: Table = {
+    "bits": [TEXT, NUMBER], "name": [None, NAME], "swaccess": [None, one_of(*SOFTWARE)],
+    "hwaccess": [None, one_of(*HARDWARE)], "resval": [None, NUMBER, BOOLEAN, one_of("x")], "mubi": [None, BOOLEAN],
+}
 KNOWN_BY = ["multireg", "window", "skipto", "reserved"]
 
 
-def outside(holder, key, only_if_true=False):
+def outside(holder: Value, key: str, only_if_true: bool = False) -> list[Broken]:
     """The key's presence, or its truth, is outside the profile."""
     value = holder.member(key)
     if value is None or (only_if_true and boolean(value) is not True):
@@ -43,7 +49,7 @@ def outside(holder, key, only_if_true=False):
     return [(2, value.place, 26, key)]
 
 
-def span(value):
+def span(value: Value | None) -> tuple[int, int] | None:
     """The highest and lowest bit of `bits`, where it is good."""
     if value is None:
         return None
@@ -56,7 +62,7 @@ def span(value):
     return None
 
 
-def field_keys(register, field):
+def field_keys(register: Value, field: Value) -> list[Broken]:
     """What a field breaks of the rules on keys."""
     if field.kind != "object":
         return []
@@ -67,7 +73,8 @@ def field_keys(register, field):
     return of_table(field, FIELD) + (outside(field, "mubi", True) if strange else [])
 
 
-def register_keys(register, table):
+def register_keys(register: Value, table: Table) -> list[Broken]:
+    """What a register or multireg breaks of the rules on keys; the table is that of its own keys."""
     broken = of_table(register, table) + elements(register, "fields") + outside(register, "shadowed", True)
     for key in ["async", "sync", "alias_target"]:
         broken += outside(register, key)
@@ -76,7 +83,8 @@ def register_keys(register, table):
     return broken
 
 
-def multireg_keys(multireg):
+def multireg_keys(multireg: Value) -> list[Broken]:
+    """What a multireg breaks of the rules on keys."""
     if multireg.kind != "object":
         return unfit("multireg", multireg, OBJECT)
     fields = multireg.member("fields")
@@ -86,7 +94,8 @@ def multireg_keys(multireg):
     return register_keys(multireg, MULTIREG) + (outside(multireg, "compact", True) if several else [])
 
 
-def entry_keys(entry):
+def entry_keys(entry: Value) -> list[Broken]:
+    """What an entry of a list of registers breaks of the rules on keys, by its kind."""
     if entry.kind != "object":
         return []
     broken = outside(entry, "sameaddr")
@@ -101,7 +110,7 @@ def entry_keys(entry):
     return broken + unfit(known, value, NUMBER)
 
 
-def entry_lists(block):
+def entry_lists(block: Value) -> list[tuple[str, Value]]:
     """The lists of entries with their keys: `registers`, or each of its members."""
     value = block.member("registers")
     if value is None:
@@ -111,11 +120,12 @@ def entry_lists(block):
     return [("registers", value)]
 
 
-def faces(block, direction):
+def faces(block: Value, direction: str) -> list[Value]:
+    """The bus interfaces of this direction, in written order."""
     return [face for face in listed(block, "bus_interfaces") if text(face, "direction") == direction]
 
 
-def good_faces(block):
+def good_faces(block: Value) -> bool:
     """Whether each interface is an object with a direction, whose direction and name have their forms."""
     value = block.member("bus_interfaces")
     return value is not None and value.kind == "list" and all(
@@ -123,7 +133,8 @@ def good_faces(block):
         and is_fit(face, "direction", one_of("device", "host")) and is_fit(face, "name", NAME) for face in value.data)
 
 
-def face_keys(block):
+def face_keys(block: Value) -> list[Broken]:
+    """What the bus interfaces break by their number, their names, and the lists of registers that belong to them."""
     devices, hosts = faces(block, "device"), faces(block, "host")
     buses, registers = block.member("bus_interfaces"), block.member("registers")
     broken = [(2, buses.place, 22, "bus_interfaces")] if len(devices) > 8 else []
@@ -148,7 +159,7 @@ def face_keys(block):
     return broken
 
 
-def block_keys(block):
+def block_keys(block: Value) -> list[Broken]:
     """All that a block breaks of the rules on keys, kinds and the profile."""
     broken = repeated(block) + of_table(block, BLOCK) + face_keys(block)
     for key, table in OF_LISTS.items():
@@ -157,7 +168,7 @@ def block_keys(block):
             broken += of_table(item, table)
     for key, least in [("clocking", 1), *[(key, 0) for key in PINS]]:
         broken += length(block, key, least, 64)
-    if fits(block.member("regwidth") or document.Value("int", 32, 0), NUMBER):
+    if fits(block.member("regwidth") or Value("int", 32, 0), NUMBER):
         broken += outside(block, "regwidth") if number(block.member("regwidth")) not in (None, 32) else []
     for face in listed(block, "bus_interfaces"):
         broken += outside(face, "protocol") if text(face, "protocol") not in (None, "tlul") else []

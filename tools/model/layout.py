@@ -2,8 +2,14 @@
 
 A description is the tree that its Hjson text stands for, as Python data: dicts, lists, strings, integers and booleans.
 """
+from __future__ import annotations
+
 import dataclasses
 
+from model.trees import Object
+
+# the defaults of the parameters by their names
+Parameters = dict[str, int | None]
 READABLE = {"ro", "rc", "rw", "rw1s", "rw1c", "rw0c"}
 WRITABLE = {"rw", "r0w1c", "rw1s", "rw1c", "rw0c", "wo"}
 
@@ -21,32 +27,36 @@ class Field:
     net: str = ""
 
     @property
-    def width(self):
+    def width(self) -> int:
+        """Its number of bits."""
         return self.high - self.low + 1
 
     @property
-    def ones(self):
+    def ones(self) -> int:
+        """The largest value that it has room for: all its bits are ones."""
         return (1 << self.width) - 1
 
     @property
-    def readable(self):
+    def readable(self) -> bool:
+        """Whether software reads its value; else a read shows zeros."""
         return self.software in READABLE
 
     @property
-    def writable(self):
+    def writable(self) -> bool:
+        """Whether writes of software may change it."""
         return self.software in WRITABLE
 
     @property
-    def seen(self):
+    def seen(self) -> bool:
         """Whether hardware sees a stored field."""
         return self.hardware in {"hro", "hrw"}
 
     @property
-    def driven(self):
+    def driven(self) -> bool:
         """Whether hardware writes a stored field."""
         return self.hardware in {"hwo", "hrw"}
 
-    def copy(self, number, shift):
+    def copy(self, number: int, shift: int) -> Field:
         """The copy of this number, shifted by so many bits."""
         return dataclasses.replace(self, name=f"{self.name}_{number}", high=self.high + shift, low=self.low + shift)
 
@@ -55,7 +65,7 @@ class Field:
 class Register:
     """A register of an interface; `gate` is the field that lets writes have an effect, if any."""
     name: str
-    fields: list
+    fields: list[Field]
     write_strobe: bool = False
     read_strobe: bool = False
     gate_name: str | None = None
@@ -65,13 +75,13 @@ class Register:
     size: int = 4
 
     @property
-    def may_gate(self):
+    def may_gate(self) -> bool:
         """Whether it is one stored, readable field of one bit."""
         field = self.fields[0]
         return len(self.fields) == 1 and field.width == 1 and field.readable and not field.external
 
     @property
-    def bytes_needed(self):
+    def bytes_needed(self) -> int:
         """How many bytes, from the lowest on, a write must strobe."""
         return max(field.high for field in self.fields) // 8 + 1
 
@@ -86,7 +96,7 @@ class Window:
     offset: int = 0
 
     @property
-    def size(self):
+    def size(self) -> int:
         """The bytes that it takes, the least power of two that its words fit in; its offset is a multiple of it."""
         return 4 << (self.words - 1).bit_length()
 
@@ -95,14 +105,19 @@ class Window:
 class Interface:
     """A device interface: its name, if any, its rows in the order of their offsets, and where the next may begin."""
     name: str | None
-    rows: list
+    rows: list[Row]
     end: int
 
 
-def interfaces(description):
+Row = Register | Window
+# a row, or `skipto` or `reserved` with its number
+Item = Row | tuple[str, int]
+
+
+def interfaces(description: Object) -> list[Interface]:
     """The device interfaces of a description, laid out."""
     names = [face.get("name") for face in description["bus_interfaces"] if face["direction"] == "device"]
-    parameters = {}
+    parameters: Parameters = {}
     for parameter in description.get("param_list", []):
         parameters.setdefault(parameter["name"], parameter.get("default"))
     laid = []
@@ -115,7 +130,7 @@ def interfaces(description):
     return laid
 
 
-def automatic_registers(description):
+def automatic_registers(description: Object) -> list[Register]:
     """The registers of the interrupts and alerts, which stand in front of the first interface's entries."""
     registers = []
     interrupts = description.get("interrupt_list", [])
@@ -130,7 +145,7 @@ def automatic_registers(description):
     return registers
 
 
-def interrupt_fields(interrupts, software, hardware, external):
+def interrupt_fields(interrupts: list[Object], software: str | None, hardware: str, external: bool) -> list[Field]:
     """A field for each interrupt; without a kind of access it has that of its state, by the interrupt's type."""
     fields, low = [], 0
     for interrupt in interrupts:
@@ -141,7 +156,7 @@ def interrupt_fields(interrupts, software, hardware, external):
     return fields
 
 
-def entry_items(entry, parameters):
+def entry_items(entry: Object, parameters: Parameters) -> list[Item]:
     """The registers, windows and skips that an entry stands for."""
     if "multireg" in entry:
         return copies(entry["multireg"], parameters)
@@ -156,17 +171,17 @@ def entry_items(entry, parameters):
     return [register(entry, entry["name"], fields_of(entry), entry.get("regwen"))]
 
 
-def number(value, parameters):
+def number(value: int | str, parameters: Parameters) -> int:
     """A number, or the number of the first parameter of that name."""
     return parameters[value] if isinstance(value, str) else value
 
 
-def register(written, name, fields, gate_name):
+def register(written: Object, name: str, fields: list[Field], gate_name: str | None) -> Register:
     """A register with the strobes that its entry asks for."""
     return Register(name, fields, written.get("hwqe", False), written.get("hwre", False), gate_name)
 
 
-def span(bits):
+def span(bits: int | str) -> tuple[int, int]:
     """The highest and the lowest bit of a field's `bits`."""
     if isinstance(bits, int):
         return bits, bits
@@ -174,7 +189,7 @@ def span(bits):
     return ends[0], ends[-1]
 
 
-def fields_of(written):
+def fields_of(written: Object) -> list[Field]:
     """The fields of a register or multireg, in the order of their bits."""
     fields = []
     for place, field in enumerate(written["fields"], 1):
@@ -189,7 +204,7 @@ def fields_of(written):
     return sorted(fields, key=lambda field: field.low)
 
 
-def reset_value(field, default):
+def reset_value(field: Object, default: int) -> int:
     """A field's reset value; a boolean of a multi-bit boolean is 6 or 9."""
     value = field.get("resval", default)
     if value == "x":
@@ -199,7 +214,7 @@ def reset_value(field, default):
     return int(value)
 
 
-def copies(multireg, parameters):
+def copies(multireg: Object, parameters: Parameters) -> list[Register]:
     """The registers of a multireg: several copies in a word where they are compacted, else one."""
     count = number(multireg["count"], parameters)
     fields = fields_of(multireg)
@@ -221,7 +236,7 @@ def copies(multireg, parameters):
     return words
 
 
-def laid_out(name, items):
+def laid_out(name: str | None, items: list[Item]) -> Interface:
     """The interface with each item at the least offset that its alignment allows."""
     rows, following = [], 0
     for item in items:

@@ -1,8 +1,8 @@
 """The first fault of a block's description, after docs/FORMATS.md, from its text on."""
 import dataclasses
 
-from model import document
-from model.forms import boolean, listed, number, text
+from model.document import Value, read
+from model.forms import Broken, boolean, listed, number, text
 from model.keys import KNOWN_BY, block_keys, entry_lists, faces, span
 from model.layout import READABLE, WRITABLE
 
@@ -18,11 +18,11 @@ LIMIT, END = 1 << 20, 1 << 24
 
 @dataclasses.dataclass(eq=False)
 class Field:
-    """A field as it is written: its name, the place of its name or bits, its bits, and how it is accessed."""
+    """A field as it is written: its name, the place of its name or bits, its bits if good, and how it is accessed."""
     name: str
     place: int
-    high: int
-    low: int
+    high: int | None
+    low: int | None
     software: str
     hardware: str
     mubi: bool
@@ -34,13 +34,17 @@ class Item:
     kind: str
     name: str
     place: int
-    fields: list = dataclasses.field(default_factory=list)
-    entry: object = None
+    fields: list[Field] = dataclasses.field(default_factory=list)
+    entry: Value | None = None
     gate: str | None = None
     span: int = 0
 
 
-def fields_of(register):
+# a device interface: its name, if any, the value that is the list of its entries, and its items
+Face = tuple[str | None, Value, list[Item]]
+
+
+def fields_of(register: Value) -> list[Field]:
     """The fields of a register in written order; those without good bits have None for them."""
     written = listed(register, "fields")
     made = []
@@ -55,16 +59,19 @@ def fields_of(register):
     return made
 
 
-def mask_of(field):
+def mask_of(field: Field) -> int:
+    """The field's bits in its register, as a number."""
     return (2 << field.high) - (1 << field.low)
 
 
-def reset_number(value):
+def reset_number(value: Value) -> int:
+    """The number of a reset value: `true` is 1; `false`, and `x` of a field, are 0."""
     found = number(value)
     return int(boolean(value) is True) if found is None else found
 
 
-def register_values(register):
+def register_values(register: Value) -> list[Broken]:
+    """What a register or multireg breaks by its bits and its reset values."""
     name, fields, broken = text(register, "name"), fields_of(register), []
     written = listed(register, "fields")
     if not written:
@@ -86,7 +93,7 @@ def register_values(register):
     return broken
 
 
-def amount(block, value):
+def amount(block: Value, value: Value) -> int | None:
     """A number, or the number of the first parameter of that name."""
     found = number(value)
     if found is not None:
@@ -98,7 +105,8 @@ def amount(block, value):
     return None
 
 
-def entry_values(block, entry):
+def entry_values(block: Value, entry: Value) -> list[Broken]:
+    """What an entry breaks by its bits, reset values, count or items."""
     multireg, window = entry.member("multireg"), entry.member("window")
     if multireg is not None:
         count = amount(block, multireg.member("count"))
@@ -116,7 +124,7 @@ def entry_values(block, entry):
 
 # ---- items
 
-def automatic_items(block):
+def automatic_items(block: Value) -> list[Item]:
     """The registers that come of the block's interrupts and alerts, in front of the first device interface."""
     made = []
     for key, switch, names in [("interrupt_list", "no_auto_intr_regs", ["INTR_STATE", "INTR_ENABLE", "INTR_TEST"]),
@@ -127,12 +135,13 @@ def automatic_items(block):
     return made
 
 
-def width_of(interrupt):
+def width_of(interrupt: Value) -> int:
     """How many bits an interrupt has."""
     return number(interrupt.member("width")) if interrupt.member("width") else 1
 
 
-def automatic_fields(block, key, register):
+def automatic_fields(block: Value, key: str, register: str) -> list[Field]:
+    """The fields of one of the automatic registers: one for each interrupt or alert in the list at the key."""
     made, low = [], 0
     for source in listed(block, key):
         width = width_of(source) if key == "interrupt_list" else 1
@@ -144,7 +153,7 @@ def automatic_fields(block, key, register):
     return made
 
 
-def copies(block, multireg):
+def copies(block: Value, multireg: Value) -> list[Item]:
     """The registers of a multireg."""
     fields, name, gate = fields_of(multireg), text(multireg, "name"), text(multireg, "regwen")
     count = amount(block, multireg.member("count"))
@@ -165,7 +174,7 @@ def copies(block, multireg):
     return made
 
 
-def items_of(block, entry):
+def items_of(block: Value, entry: Value) -> list[Item]:
     """What an entry stands for."""
     if entry.member("multireg") is not None:
         return copies(block, entry.member("multireg"))
@@ -180,7 +189,7 @@ def items_of(block, entry):
     return [Item("register", name, entry.member("name").place, fields_of(entry), entry, text(entry, "regwen"))]
 
 
-def interfaces(block):
+def interfaces(block: Value) -> list[Face]:
     """The device interfaces: name, the value that is the list of its entries, and its items."""
     made = []
     for count, face in enumerate(faces(block, "device")):
@@ -193,11 +202,12 @@ def interfaces(block):
     return made
 
 
-def is_row(item):
+def is_row(item: Item) -> bool:
+    """Whether the item is a register or window, which has an offset of its own."""
     return item.kind in ("register", "window")
 
 
-def twice(named, broken):
+def twice(named: list[tuple[str, int, str]], broken: list[Broken]) -> None:
     """Tells each name that stands earlier, by a key under which names are the same."""
     seen = set()
     for name, place, key in named:
@@ -206,7 +216,8 @@ def twice(named, broken):
         seen.add(key)
 
 
-def block_items(block):
+def block_items(block: Value) -> list[Broken]:
+    """What a block breaks by names that come twice, and by too many registers, fields, interrupt bits or alerts."""
     broken, rows, field_count = [], 0, 0
     for _, _, items in interfaces(block):
         held = [item for item in items if is_row(item)]
@@ -226,19 +237,22 @@ def block_items(block):
 
 # ---- offsets
 
-def is_external(item):
+def is_external(item: Item) -> bool:
+    """Whether the register stores nothing itself: it has `hwext`, or is the automatic one of a test."""
     if item.entry is None:
         return item.name in ("INTR_TEST", "ALERT_TEST")
     return boolean(item.entry.member("hwext")) is True
 
 
-def may_gate(item):
+def may_gate(item: Item) -> bool:
+    """Whether the register is one stored, readable field of one bit."""
     field = item.fields[0]
     plain = len(item.fields) == 1 and field.high == field.low and not field.mubi
     return plain and field.software in READABLE and not is_external(item)
 
 
-def gates(items):
+def gates(items: list[Item]) -> list[Broken]:
+    """The gates of an interface's registers that are no register of it, or none that may be a gate."""
     broken, registers = [], {item.name.lower(): item for item in items if item.kind == "register"}
     for item in items:
         if item.gate is None:
@@ -251,7 +265,7 @@ def gates(items):
     return broken
 
 
-def offsets(items):
+def offsets(items: list[Item]) -> list[Broken]:
     """What the offsets of an interface's items break; nothing is looked for after the first."""
     following = 0
     for item in items:
@@ -269,7 +283,8 @@ def offsets(items):
     return []
 
 
-def block_offsets(block):
+def block_offsets(block: Value) -> list[Broken]:
+    """What a block's interfaces break by having no rows, by their gates and by their offsets."""
     broken = []
     for name, value, items in interfaces(block):
         if not any(is_row(item) for item in items):
@@ -280,7 +295,7 @@ def block_offsets(block):
 
 # ---- names
 
-def field_ports(item, field, external):
+def field_ports(item: Item, field: Field, external: bool) -> list[str]:
     """The ports of a field, in their order."""
     entry, software = item.entry, field.software
     if external:
@@ -291,7 +306,7 @@ def field_ports(item, field, external):
     return [f"{item.name}_{field.name}".lower() + "_" + kind for kind in kinds]
 
 
-def module_names(items):
+def module_names(items: list[Item]) -> list[str]:
     """The names of an interface's register module: its ports, then its wires and instances in the text's order."""
     rows = [item for item in items if is_row(item)]
     names = ["clk_i", "rst_ni", "reg_we", "reg_re", "reg_addr", "reg_wdata", "reg_be", "reg_rdata", "reg_error"]
@@ -311,7 +326,7 @@ def module_names(items):
     return names + [f"u_{net}" for net in stored]
 
 
-def header_names(block):
+def header_names(block: Value) -> list[str]:
     """The names that a block's header defines."""
     head = text(block, "name").upper()
     names = [f"_{head}_REG_DEFS_", f"{head}_PARAM_REG_WIDTH"]
@@ -329,7 +344,8 @@ def header_names(block):
     return names
 
 
-def clash(block):
+def clash(block: Value) -> list[Broken]:
+    """The first name that comes twice in one of the block's register modules, or else in its header."""
     for names in [*[module_names(items) for _, _, items in interfaces(block)], header_names(block)]:
         seen = set()
         for name in names:
@@ -341,7 +357,7 @@ def clash(block):
 
 # ---- the whole
 
-def first_broken(bytes_of_file):
+def first_broken(bytes_of_file: bytes) -> tuple[int, str, str] | None:
     """The first fault: its rule, its place in characters, and its name; None where there is none."""
     if len(bytes_of_file) > LIMIT:
         return 11, "", ""
@@ -349,7 +365,7 @@ def first_broken(bytes_of_file):
         whole = bytes_of_file.decode()
     except UnicodeDecodeError as error:
         return 12, bytes_of_file[:error.start].decode(), ""
-    root, failed = document.read(whole)
+    root, failed = read(whole)
     if root is None:
         return failed[0], whole[:failed[1]], ""
     for phase in [block_keys, block_all_values, block_items, block_offsets, clash]:
@@ -360,12 +376,13 @@ def first_broken(bytes_of_file):
     return None
 
 
-def block_all_values(block):
+def block_all_values(block: Value) -> list[Broken]:
+    """What the block's entries break by their bits, reset values, counts and items."""
     entries = [entry for _, value in entry_lists(block) for entry in value.items()]
     return [broken for entry in entries for broken in entry_values(block, entry)]
 
 
-def first_line(name_of_file, bytes_of_file):
+def first_line(name_of_file: str, bytes_of_file: bytes) -> str | None:
     """The line that tells the first fault of a file; None where there is none."""
     found = first_broken(bytes_of_file)
     if found is None:

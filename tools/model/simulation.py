@@ -5,9 +5,12 @@ import pathlib
 import re
 import subprocess
 
-from model.layout import Register
-from model.step import BUS_PORTS, Block, accepted, field_ports, hardware_ports, stored_fields, target, window_ports
+from model.layout import Interface, Register
+from model.step import (BUS_PORTS, Block, Clock, Input, Port, accepted, field_ports, hardware_ports, stored_fields,
+                        target, window_ports)
 
+# how many there are of each kind of thing that is tried
+Counts = collections.Counter[str]
 SECONDS = 600
 FLOP = pathlib.Path(__file__).resolve().parent.parent / "prim_flop.sv"
 PORT = re.compile(r"^  (input|output) (?:\[([0-9]+):0\] )?(\w+),?$", re.MULTILINE)
@@ -17,12 +20,12 @@ class Mismatch(Exception):
     """What differs from the model."""
 
 
-def module_name(block, interface):
+def module_name(block: str, interface: Interface) -> str:
     """The name of the interface's register module."""
     return f"{block}_reg_top" if interface.name is None else f"{block}_{interface.name}_reg_top"
 
 
-def compare_ports(interface, text):
+def compare_ports(interface: Interface, text: str) -> Counts:
     """Counts the module's ports, which must be those of the model in their order."""
     head = text.partition(");")[0]
     found = [(direction, int(high) + 1 if high else 1, name) for direction, high, name in PORT.findall(head)]
@@ -45,15 +48,15 @@ class Net:
 class Bench:
     """A testbench of a module: its ports to hardware and to software without the clock, and the nets that it tells."""
     module: str
-    ports: list
-    told: list
+    ports: list[Port]
+    told: list[Net]
 
     @property
-    def inputs(self):
+    def inputs(self) -> list[Input]:
         """The widths and names of the inputs, in the order of a vector's bits."""
         return [(width, name) for direction, width, name in self.ports if direction == "input"]
 
-    def text(self, clocks):
+    def text(self, clocks: int) -> str:
         """The testbench for so many clocks, which reads `vectors.hex` and writes `seen.txt`."""
         width = sum(width for width, _ in self.inputs)
         wires = "".join(f"  wire [{width - 1}:0] {name};\n" for _, width, name in self.ports)
@@ -85,13 +88,13 @@ class Bench:
 endmodule
 """
 
-    def vector(self, clock):
+    def vector(self, clock: Clock) -> str:
         """A clock's inputs in hexadecimal."""
         bits = "".join(f"{clock.value(name):0{width}b}" for width, name in self.inputs)
         return f"{int(bits, 2):x}\n"
 
 
-def bench_of(module, interface):
+def bench_of(module: str, interface: Interface) -> Bench:
     """The testbench of an interface's module."""
     told = [Net("reg_error", "reg_error", "errors"), Net("reg_rdata", "reg_rdata", "read data")]
     kinds = {"q": "hardware views q", "qe": "write strobes qe", "re": "read strobes re"}
@@ -105,12 +108,12 @@ def bench_of(module, interface):
     return Bench(module, BUS_PORTS[1:] + hardware_ports(interface), told)
 
 
-def outputs(ports):
+def outputs(ports: list[Port]) -> list[str]:
     """The names of the outputs among these ports."""
     return [name for direction, _, name in ports if direction == "output"]
 
 
-def run(words, folder):
+def run(words: list[str], folder: pathlib.Path) -> str:
     """What a command says; a mismatch where it fails or does not end."""
     try:
         done = subprocess.run(words, cwd=folder, stdin=subprocess.DEVNULL, capture_output=True, text=True,
@@ -122,7 +125,7 @@ def run(words, folder):
     return done.stdout
 
 
-def simulate(bench, text_path, clocks, folder):
+def simulate(bench: Bench, text_path: pathlib.Path, clocks: list[Clock], folder: pathlib.Path) -> list[list[str]]:
     """What the module shows in each clock, as one list of hexadecimal values for each."""
     folder.mkdir()
     (folder / "bench.sv").write_text(bench.text(len(clocks)))
@@ -132,19 +135,19 @@ def simulate(bench, text_path, clocks, folder):
     return [line.split() for line in (folder / "seen.txt").read_text().splitlines()]
 
 
-def expected_values(block, clock):
+def expected_values(block: Block, clock: Clock) -> dict[str, int]:
     """The nets' values that the model gives for a clock, by name; a net of which it says nothing is absent."""
     error, data = block.answer(clock)
     values = {"reg_error": error} | ({} if data is None else {"reg_rdata": data})
     return values | block.views(clock) | {f"{field.net}_s": value for field, value in block.values.items()}
 
 
-def compare_clocks(interface, bench, clocks, seen):
+def compare_clocks(interface: Interface, bench: Bench, clocks: list[Clock], seen: list[list[str]]) -> Counts:
     """Counts the values compared by their kind; the first that differs is a mismatch."""
     if len(seen) != len(clocks):
         raise Mismatch(f"{len(seen)} clocks in place of {len(clocks)}")
     block = Block(interface)
-    counts = collections.Counter()
+    counts: Counts = collections.Counter()
     for number, (clock, shown) in enumerate(zip(clocks, seen)):
         if not clock.rst_ni:
             block.reset()
@@ -160,7 +163,7 @@ def compare_clocks(interface, bench, clocks, seen):
     return counts
 
 
-def account(block, clock):
+def account(block: Block, clock: Clock) -> Counts:
     """What kind of a clock it is, for the summary."""
     counts = collections.Counter(clocks=1, resets=1 - clock.rst_ni)
     row = target(block.interface, clock.reg_addr)
@@ -184,7 +187,8 @@ def account(block, clock):
     return counts
 
 
-def simulate_and_compare(module, interface, text_path, clocks, folder):
+def simulate_and_compare(module: str, interface: Interface, text_path: pathlib.Path, clocks: list[Clock],
+                         folder: pathlib.Path) -> Counts:
     """Runs a module through the clocks, and counts the values that were compared with the model."""
     bench = bench_of(module, interface)
     seen = simulate(bench, text_path, clocks, folder)

@@ -1,10 +1,14 @@
 """What a register block does in a clock, and the ports that its module has."""
 import dataclasses
 
-from model.layout import Register
+from model.layout import Field, Interface, Register, Row, Window
 
+# direction, width, name
+Port = tuple[str, int, str]
+# width, name
+Input = tuple[int, str]
 ALL_ONES = 0xFFFFFFFF
-BUS_PORTS = [
+BUS_PORTS: list[Port] = [
     ("input", 1, "clk_i"), ("input", 1, "rst_ni"), ("input", 1, "reg_we"), ("input", 1, "reg_re"),
     ("input", 32, "reg_addr"), ("input", 32, "reg_wdata"), ("input", 4, "reg_be"),
     ("output", 32, "reg_rdata"), ("output", 1, "reg_error"),
@@ -20,19 +24,20 @@ class Clock:
     reg_addr: int = 0
     reg_wdata: int = 0
     reg_be: int = 0
-    hardware: dict = dataclasses.field(default_factory=dict)
+    hardware: dict[str, int] = dataclasses.field(default_factory=dict)
 
-    def __str__(self):
+    def __str__(self) -> str:
+        """The clock's access, and whether it is in reset."""
         access = "write of {0:#x}" if self.reg_we else "read" if self.reg_re else "no access, {0:#x}"
         reset = "" if self.rst_ni else ", in reset"
         return f"{access.format(self.reg_wdata)} at {self.reg_addr:#x}, strobes {self.reg_be:04b}{reset}"
 
-    def value(self, net):
+    def value(self, net: str) -> int:
         """What the input net holds."""
         return self.hardware[net] if net in self.hardware else getattr(self, net)
 
 
-def hardware_ports(interface):
+def hardware_ports(interface: Interface) -> list[Port]:
     """The ports to hardware, row by row."""
     ports = []
     for row in interface.rows:
@@ -44,14 +49,14 @@ def hardware_ports(interface):
     return ports
 
 
-def window_ports(row):
+def window_ports(row: Window) -> list[Port]:
     """The ports of a window."""
     net = f"win_{row.name.lower()}"
     return [("output", 1, f"{net}_we"), ("output", 1, f"{net}_re"), ("output", 32, f"{net}_addr"),
             ("output", 32, f"{net}_wdata"), ("output", 4, f"{net}_be"), ("input", 32, f"{net}_rdata")]
 
 
-def field_ports(row, field):
+def field_ports(row: Register, field: Field) -> list[Port]:
     """The ports of a field, those of `_q`, `_qe`, `_re`, `_d` and `_de` that it has."""
     if field.external:
         kinds = {"q": field.writable, "qe": field.writable, "re": field.readable, "d": field.readable, "de": False}
@@ -62,12 +67,12 @@ def field_ports(row, field):
             for kind, there in kinds.items() if there]
 
 
-def stored_fields(interface):
+def stored_fields(interface: Interface) -> list[Field]:
     """The fields that the block itself stores."""
     return [field for row in interface.rows if isinstance(row, Register) for field in row.fields if not field.external]
 
 
-def target(interface, address):
+def target(interface: Interface, address: int) -> Row | None:
     """The row that an address reaches, if any."""
     word = address & ~3
     for row in interface.rows:
@@ -76,7 +81,7 @@ def target(interface, address):
     return None
 
 
-def accepted(row, clock):
+def accepted(row: Row | None, clock: Clock) -> bool:
     """Whether the access of a clock is done at its row."""
     if row is None or not (clock.reg_we or clock.reg_re):
         return False
@@ -91,18 +96,19 @@ def accepted(row, clock):
 class Block:
     """The values of an interface's stored fields, as they stand before a clock."""
 
-    def __init__(self, interface):
+    def __init__(self, interface: Interface) -> None:
+        """The block with each field at its reset value."""
         self.interface = interface
         self.stored = stored_fields(interface)
         self.outputs = {name for direction, _, name in hardware_ports(interface) if direction == "output"}
-        self.values = {}
+        self.values: dict[Field, int] = {}
         self.reset()
 
-    def reset(self):
+    def reset(self) -> None:
         """Each field has its reset value."""
         self.values = {field: field.reset for field in self.stored}
 
-    def effect(self, clock):
+    def effect(self, clock: Clock) -> tuple[Row | None, Row | None]:
         """The row that is written with effect, and the row that is read, each None where there is none."""
         row = target(self.interface, clock.reg_addr)
         if not accepted(row, clock):
@@ -112,7 +118,7 @@ class Block:
         is_open = not isinstance(row, Register) or row.gate is None or self.values[row.gate] != 0
         return row if is_open else None, None
 
-    def word(self, row, clock):
+    def word(self, row: Row, clock: Clock) -> int:
         """What a read of the row shows."""
         if not isinstance(row, Register):
             return clock.value(f"win_{row.name.lower()}_rdata")
@@ -123,14 +129,14 @@ class Block:
                 shown |= value << field.low
         return shown
 
-    def answer(self, clock):
+    def answer(self, clock: Clock) -> tuple[int, int | None]:
         """Whether the clock's access is an error, and its read data, or None where nothing is said of them."""
         row = target(self.interface, clock.reg_addr)
         if (clock.reg_we or clock.reg_re) and not accepted(row, clock):
             return 1, ALL_ONES
         return 0, self.word(row, clock) if clock.reg_re else None
 
-    def views(self, clock):
+    def views(self, clock: Clock) -> dict[str, int]:
         """What hardware sees in the clock, by the nets' names."""
         written, read = self.effect(clock)
         seen = {}
@@ -145,7 +151,7 @@ class Block:
                 seen.update(zip(nets, [*strobes, clock.reg_addr, clock.reg_wdata, clock.reg_be]))
         return {net: value for net, value in seen.items() if net in self.outputs}
 
-    def pass_clock(self, clock):
+    def pass_clock(self, clock: Clock) -> None:
         """Each stored field takes its next value."""
         if not clock.rst_ni:
             self.reset()
@@ -158,7 +164,7 @@ class Block:
                     following[field] = self.next_value(field, row is written, row is read, clock)
         self.values = following
 
-    def next_value(self, field, written, read, clock):
+    def next_value(self, field: Field, written: bool, read: bool, clock: Clock) -> int:
         """The value of a stored field after the clock: hardware's or its own, then changed by software's access."""
         held = self.values[field]
         if field.driven and clock.value(f"{field.net}_de"):
