@@ -110,7 +110,11 @@ fn answer(alloc: Global, shown: Shown, document: &str) -> Result<String, Memory>
 
 /// The rows of each interface at their offsets, of a block with these entries.
 pub fn rows_of_entries(alloc: Global, entries: &str) -> Result<String, Memory> {
-    answer(alloc, Shown::Rows, with_entries_in_line_3(alloc, entries)?.as_str())
+    answer(
+        alloc,
+        Shown::Rows,
+        with_entries_in_line_3(alloc, entries)?.as_str(),
+    )
 }
 
 /// The rows of each interface at their offsets, of a block with these keys.
@@ -120,7 +124,11 @@ pub fn rows_of_keys(alloc: Global, keys: &str) -> Result<String, Memory> {
 
 /// The fields of the registers of each interface, of a block with these entries.
 pub fn fields_of_entries(alloc: Global, entries: &str) -> Result<String, Memory> {
-    answer(alloc, Shown::Fields, with_entries_in_line_3(alloc, entries)?.as_str())
+    answer(
+        alloc,
+        Shown::Fields,
+        with_entries_in_line_3(alloc, entries)?.as_str(),
+    )
 }
 
 /// The fields of the registers of each interface, of a block with these keys.

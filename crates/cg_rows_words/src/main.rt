@@ -1,7 +1,7 @@
 //! Rows on what lies below descriptions: numbers, lists, stores and streams, command lines, documents and objects by tables of keys.
 //!
-//! Each call of `tell` names a table in `data/` and what answers its rows. The answers have no clauses: that they end is proved, and
-//! what the program says is compared with the file `stdout`.
+//! Each call of `Tables::tell` names a table in `data/` and what answers its rows. The answers have no clauses: that they end is proved,
+//! and what the program says is compared with the file `stdout`.
 #![tactic(auto)]
 
 mod basics;
@@ -19,28 +19,31 @@ mod values;
 mod words;
 
 use cg_base::Memory;
-use cg_table::{ended, tell};
+use cg_table::{Tables, ended};
 use std::alloc::Global;
 use std::fs::Files;
 use std::process::ExitCode;
 
 fn told<R: Files + Copy + Drop>(rt: &R, alloc: Global) -> Result<String, Memory> {
-    let mut told = String::new(alloc);
-    tell(rt, alloc, &mut told, "basics.txt", basics::answer)?;
-    tell(rt, alloc, &mut told, "numbers.txt", numbers::answer)?;
-    tell(rt, alloc, &mut told, "stores.txt", |alloc, given| stores::answer(rt, alloc, given))?;
-    tell(rt, alloc, &mut told, "streams.txt", streams::answer)?;
-    tell(rt, alloc, &mut told, "words.txt", words::answer)?;
-    tell(rt, alloc, &mut told, "documents.txt", documents::answer)?;
-    tell(rt, alloc, &mut told, "places.txt", documents::answer_with_places)?;
-    tell(rt, alloc, &mut told, "json.txt", json::answer)?;
-    tell(rt, alloc, &mut told, "names.txt", names::answer)?;
-    tell(rt, alloc, &mut told, "values.txt", values::answer)?;
-    tell(rt, alloc, &mut told, "lookups.txt", values::answer_for_each)?;
-    tell(rt, alloc, &mut told, "keys.txt", keys::answer)?;
-    tell(rt, alloc, &mut told, "lists.txt", lists::answer)?;
-    tell(rt, alloc, &mut told, "duplicates.txt", duplicates::answer)?;
-    Ok(told)
+    let mut tables = Tables::new(rt, alloc);
+    tables.tell("basics.txt", basics::answer)?;
+    tables.tell("numbers.txt", numbers::answer)?;
+    tables.tell(
+        "stores.txt",
+        |alloc, given| stores::answer(rt, alloc, given),
+    )?;
+    tables.tell("streams.txt", streams::answer)?;
+    tables.tell("words.txt", words::answer)?;
+    tables.tell("documents.txt", documents::answer)?;
+    tables.tell("places.txt", documents::answer_with_places)?;
+    tables.tell("json.txt", json::answer)?;
+    tables.tell("names.txt", names::answer)?;
+    tables.tell("values.txt", values::answer)?;
+    tables.tell("lookups.txt", values::answer_for_each)?;
+    tables.tell("keys.txt", keys::answer)?;
+    tables.tell("lists.txt", lists::answer)?;
+    tables.tell("duplicates.txt", duplicates::answer)?;
+    Ok(tables.told())
 }
 
 fn main(rt: HostRuntime) -> ExitCode {

@@ -1,4 +1,4 @@
-//! What the subjects share that begin with the tree of a document.
+//! What the answers share that begin with the tree of a document.
 
 ghost use Rattle.std.specs.Prelude.{IfOk, IfSome};
 ghost use Rattle.cg_hjson.specs.Json.{IntegersFit};
@@ -23,7 +23,7 @@ pub fn read_tree(alloc: Global, text: &str) -> Result<Option<Tree>, Memory>
     }
 }
 
-/// What a subject answers where the text has no tree.
+/// What is answered where the text has no tree.
 pub fn no_document(alloc: Global) -> Result<String, Memory> {
     Ok(String::from_str(alloc, "no document")?)
 }

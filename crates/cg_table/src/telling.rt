@@ -31,32 +31,54 @@ fn read_text<R: Files>(rt: &R, alloc: Global, file: &str) -> io::Result<String> 
     io::read_to_string(alloc, File::open(rt, file)?)
 }
 
-/// Adds how many rows the table in this file has, and each row whose answer is not the one that is wanted.
-///
-/// Where the file is not read, what fails is added.
-pub fn tell<R: Files, F: Fn(Global, &str) -> Result<String, Memory>>(
-    rt: &R,
+/// The tables of a program, which are files where it runs, and what is told of those that were tried.
+#[derive(Drop)]
+pub struct Tables<'a, R> {
+    rt: &'a R,
     alloc: Global,
-    told: &mut String,
-    file: &str,
-    answer: F,
-) -> Result<(), Memory>
-    requires { F.IsAlwaysCallable answer }
-{
-    let table = match read_text(rt, alloc, file) {
-        Ok(table) => table,
-        Err(fault) => {
-            writeln!(told, "{file}: {fault}")?;
-            return Ok(());
+    told: String,
+}
+
+impl<'a, R: Files> Tables<'a, R> {
+    /// No table was tried yet.
+    pub fn new(rt: &'a R, alloc: Global) -> Tables<'a, R> {
+        Tables {
+            rt,
+            alloc,
+            told: String::new(alloc),
         }
-    };
-    let rows = rows(alloc, table.as_str())?;
-    let count = rows.len();
-    writeln!(told, "{file}: {count} rows")?;
-    for row in &rows {
-        tell_row(alloc, told, row, &answer)?;
     }
-    Ok(())
+
+    /// Tells how many rows the table in this file has, and each row whose answer is not the one that is wanted.
+    ///
+    /// Where the file is not read, what fails is told.
+    pub fn tell<F: Fn(Global, &str) -> Result<String, Memory>>(
+        &mut self,
+        file: &str,
+        answer: F,
+    ) -> Result<(), Memory>
+        requires { F.IsAlwaysCallable answer }
+    {
+        let table = match read_text(self.rt, self.alloc, file) {
+            Ok(table) => table,
+            Err(fault) => {
+                writeln!(&mut self.told, "{file}: {fault}")?;
+                return Ok(());
+            }
+        };
+        let rows = rows(self.alloc, table.as_str())?;
+        let count = rows.len();
+        writeln!(&mut self.told, "{file}: {count} rows")?;
+        for row in &rows {
+            tell_row(self.alloc, &mut self.told, row, &answer)?;
+        }
+        Ok(())
+    }
+
+    /// All that was told.
+    pub fn told(self) -> String {
+        self.told
+    }
 }
 
 /// Writes what was told, and answers the status of the program: success, or failure where memory was not found or a write fails.
