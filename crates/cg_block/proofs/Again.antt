@@ -1,5 +1,5 @@
 -- A completed description in place of its source gives the same files.
-use Rattle.std.proofs.Common.{◌≡◌, ℕ, ◌+◌, ◌≤◌, List, [], ◌∷◌, ◌++◌, map, length, codes, Some, None, refl, sym, ap, ◌∙◌, subst, chars}
+use Rattle.std.proofs.Common.{◌≡◌, ℕ, ◌+◌, ◌≤◌, List, [], ◌∷◌, ◌++◌, map, length, codes, refl, sym, ap, ◌∙◌, subst, chars}
 use Rattle.cg_docspec.specs.Depth.{Opener}
 use Rattle.cg_docspec.specs.Document.{Document}
 use Rattle.cg_svspec.specs.Names.{first_repeat}
@@ -19,8 +19,7 @@ use Rattle.cg_done.specs.Full.{full_block}
 use Rattle.cg_samespec.specs.Laws.{IsLaidSoundly, ReadFieldsAreApart, SameIsLaid}
 use Rattle.cg_samespec.specs.Same.{WriteSame}
 use Rattle.cg_files.specs.Files.{File, HasTree, some_file, limit, limit_of_all}
-use Rattle.cg_block.specs.Stages.{IsLaidOutAs}
-use Rattle.cg_block.specs.Outputs.{clash_of, first_clash, or_else, register_output, header_output, completed_output}
+use Rattle.cg_block.specs.Outputs.{clash_of, first_clash, or_else, register_output}
 use Rattle.cg_block.specs.Unit.{module_output}
 use Rattle.cg_block.specs.Breaks.{IsGoodFile}
 use Rattle.cg_block.specs.Meaning.{WritesSame, BuildsSame}

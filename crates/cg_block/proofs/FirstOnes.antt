@@ -1,5 +1,5 @@
 -- What a stage finds first is what the whole file breaks first.
-use Rattle.std.proofs.Common.{◌≡◌, ℕ, List, Some, Result, Ok, Err, IfOk, map, sym, ◌∙◌, ap, subst, refl}
+use Rattle.std.proofs.Common.{◌≡◌, ℕ, List, Some, Result, Ok, Err, IfOk, map, sym, ◌∙◌, ap, subst}
 use Rattle.cg_desc.specs.Faults.{Before}
 use Rattle.cg_desc.proofs.FaultOrder.{before_irreflexive}
 use Rattle.cg_desc.specs.declared.block.BlockDesc.{BlockDesc}

@@ -1,13 +1,11 @@
 -- What is written means the block, by the laws of printed texts, of register modules, of headers and of completed descriptions.
-use Rattle.std.proofs.Common.{◌≡◌, ℕ, ◌+◌, ◌≤◌, List, [], ◌∷◌, map, length, sym, subst, inl, inr}
-use Rattle.cg_svspec.specs.Layout.{module_text}
+use Rattle.std.proofs.Common.{◌≡◌, List, [], ◌∷◌, sym, subst, inl, inr}
 use Rattle.cg_svspec.specs.Names.{Among, first_repeat}
 use Rattle.cg_svspec.specs.Printable.{AllOf, IsPrintable}
 use Rattle.cg_svspec.specs.Stands.{PrintedTextStands}
 use Rattle.cg_svspec.specs.Tree.{Module}
 use Rattle.cg_desc.specs.declared.block.BlockDesc.{BlockDesc}
 use Rattle.cg_desc.specs.declared.block.LaidBlock.{LaidBlock}
-use Rattle.cg_desc.specs.declared.block.LaidFace.{LaidFace}
 use Rattle.cg_hjson.specs.declared.tree.Tree.{Tree}
 use Rattle.cg_blkread.specs.Described.{block_of}
 use Rattle.cg_layout.proofs.Whole.{laid_faces}
@@ -15,10 +13,9 @@ use Rattle.cg_regspec.specs.Laws.{RegisterModuleMeans}
 use Rattle.cg_regspec.specs.RegisterModule.{modules_of, module_of_face}
 use Rattle.cg_hdrspec.specs.BlockHeader.{header_names}
 use Rattle.cg_hdrspec.specs.Laws.{BlockHeaderMeans}
-use Rattle.cg_files.specs.Files.{File, limit, limit_of_all}
+use Rattle.cg_files.specs.Files.{File}
 use Rattle.cg_block.specs.Outputs.{first_clash}
 use Rattle.cg_block.specs.Breaks.{IsGoodFile}
-use Rattle.cg_block.specs.Meaning.{BlockMeans, RegisterTextMeans}
 use Rattle.cg_block.specs.Laws.{BlockOutputsMean}
 use Rattle.cg_block.proofs.Again as again
 use Rattle.cg_block.proofs.Again.{builds_same}

@@ -1,13 +1,12 @@
 -- A file is of one good block at most, and then breaks nothing.
-use Rattle.std.proofs.Common.{◌≡◌, ℕ, List, Option, Some, None, sym, ap, ◌∙◌, subst}
+use Rattle.std.proofs.Common.{◌≡◌, ℕ, Some, None, sym, ap, ◌∙◌, subst}
 use Rattle.cg_desc.specs.declared.block.LaidBlock.{LaidBlock}
 use Rattle.cg_finding.specs.Finding.{Finding}
 use Rattle.cg_hjson.specs.declared.tree.Tree.{Tree}
-use Rattle.cg_files.specs.Files.{File, HasTree}
 use Rattle.cg_files.proofs.OneTree.{same_tree, unbroken}
 use Rattle.cg_block.specs.Stages.{IsLaidOutAs}
 use Rattle.cg_block.specs.Outputs.{clash_of}
-use Rattle.cg_block.specs.Breaks.{BreaksTree, BreaksBlock, IsGoodBlock, IsGoodFile, keys_or_values, names_or_counts, offsets_or_gates, clash, of_file, of_tree}
+use Rattle.cg_block.specs.Breaks.{BreaksTree, IsGoodBlock, keys_or_values, names_or_counts, offsets_or_gates, clash, of_file, of_tree}
 use Rattle.cg_block.specs.Laws.{GoodFileBreaksNothing, GoodFileIsOne}
 use Rattle.cg_block.proofs.FirstOnes.{one_layout}
 

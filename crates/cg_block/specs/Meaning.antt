@@ -1,5 +1,5 @@
 -- What the files that are written of a block mean.
-use Rattle.std.specs.Prelude.{◌≡◌, ◌≤◌, ℕ, ◌+◌, List, [], ◌∷◌, map, length, Some}
+use Rattle.std.specs.Prelude.{◌≡◌, ◌≤◌, ℕ, ◌+◌, List, [], ◌∷◌, map, length}
 use Rattle.cg_svspec.specs.Names.{Among}
 use Rattle.cg_svspec.specs.Stands.{Stands}
 use Rattle.cg_svspec.specs.Tree.{Module}

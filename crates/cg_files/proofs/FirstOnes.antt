@@ -1,5 +1,5 @@
 -- What a file breaks first.
-use Rattle.std.proofs.Common.{◌≡◌, ◌⊎◌, ◌<◌, ℕ, List, [], length, take, Option, Some, None, Result, Err, sym, ◌∙◌, ap, subst, inl, inr, arith, refl}
+use Rattle.std.proofs.Common.{◌≡◌, ◌<◌, ℕ, List, [], Some, None, sym, ◌∙◌, ap, subst, inl, inr, arith, refl}
 use Rattle.std.specs.Str.{chars, IsUtf8, IsValidUpTo}
 use Rattle.cg_docspec.specs.Place.{Place}
 use Rattle.cg_docspec.specs.SyntaxFault.{NoDocument, TooDeep, too_deep as deep, no_document as none_there}
@@ -13,7 +13,7 @@ use Rattle.cg_finding.specs.Finding.{Finding, finding, in_file}
 use Rattle.cg_finding.specs.Rules as rules
 use Rattle.cg_finding.specs.Refusal.{Names}
 use Rattle.cg_finding.specs.Violations.{IsFirstViolation, RefusesFirst}
-use Rattle.cg_files.specs.Files.{File, IsText, IsTooLarge, HasTree, BreaksFile, absent, too_large, not_utf8, no_document, too_deep, place_behind}
+use Rattle.cg_files.specs.Files.{File, IsText, IsTooLarge, BreaksFile, absent, too_large, not_utf8, no_document, too_deep, place_behind}
 use Rattle.cg_files.proofs.OneTree.{same_bytes, not_text, not_large}
 
 -- a refusal that names the first violation

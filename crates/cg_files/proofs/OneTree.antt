@@ -1,10 +1,9 @@
 -- A file has one tree, and breaks nothing then.
-use Rattle.std.proofs.Common.{◌≡◌, ◌⊎◌, ℕ, List, length, Option, Some, None, sym, ◌∙◌, ap, subst, inl, inr, arith}
+use Rattle.std.proofs.Common.{◌≡◌, ℕ, List, length, Option, Some, None, sym, ◌∙◌, subst, inl, inr, arith}
 use Rattle.std.specs.Str.{chars, IsUtf8, IsValidUpTo}
 use Rattle.std.proofs.lemmas.List.{take_all}
-use Rattle.cg_docspec.specs.Place.{Place}
 use Rattle.cg_docspec.specs.Document.{Document}
-use Rattle.cg_docspec.specs.SyntaxFault.{NoDocument, TooDeep, too_deep as deep, read}
+use Rattle.cg_docspec.specs.SyntaxFault.{TooDeep, too_deep as deep, read}
 use Rattle.cg_docspec.proofs.Answering.Answers.{one_answer, one_tree}
 use Rattle.cg_hjson.proofs.SeenWhole.{seen_alike}
 use Rattle.cg_hjson.specs.Views.{tree_of}

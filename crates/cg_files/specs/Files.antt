@@ -1,5 +1,5 @@
 -- A file of a build, what it breaks before it has a tree, and its tree.
-use Rattle.std.specs.Prelude.{◌≡◌, ◌⊎◌, ℕ, ◌+◌, ◌<◌, ◌≤◌, List, [], length, take, IsUtf8, chars, Option, Some, None, Result, Ok, Err}
+use Rattle.std.specs.Prelude.{◌≡◌, ◌⊎◌, ℕ, ◌+◌, ◌<◌, ◌≤◌, List, length, take, IsUtf8, chars, Option, Some, None, Result, Ok, Err}
 use Rattle.std.specs.Str.{IsValidUpTo}
 use Rattle.cg_docspec.specs.Place.{Place, origin, place_after}
 use Rattle.cg_docspec.specs.Depth.{Opener}

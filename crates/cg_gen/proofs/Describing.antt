@@ -1,22 +1,21 @@
 -- What is due for the description of a block.
-use Rattle.std.proofs.Common.{◌≡◌, ◌<◌, ◌⊎◌, ◌↔◌, ℕ, List, [], ◌∷◌, length, Option, Some, None, refl, sym, ap, ◌∙◌, subst, inl, inr}
+use Rattle.std.proofs.Common.{◌≡◌, ◌<◌, ℕ, List, [], ◌∷◌, length, Option, Some, None, refl, ap, ◌∙◌, subst, inl, inr}
 use Rattle.cg_svspec.specs.Names.{Among}
 use Rattle.cg_desc.specs.Faults.{Before}
 use Rattle.cg_desc.specs.declared.fault.DescFault.{DescFault}
-use Rattle.cg_desc.specs.declared.fault.DescFault.TheVariants.{Fault as refused_by, Memory}
+use Rattle.cg_desc.specs.declared.fault.DescFault.TheVariants.{Fault as refused_by}
 use Rattle.cg_desc.specs.declared.fault.Fault.{Fault}
 use Rattle.cg_desc.specs.declared.block.LaidBlock.{LaidBlock}
-use Rattle.cg_finding.specs.Finding.{Finding, finding, in_file}
+use Rattle.cg_finding.specs.Finding.{Finding, in_file}
 use Rattle.cg_finding.specs.Rules as rules
 use Rattle.cg_finding.specs.Refusal.{Names}
 use Rattle.cg_finding.specs.Violations.{IsFirstViolation, IsFirstFault, RefusesFirst}
 use Rattle.cg_hjson.specs.declared.tree.Tree.{Tree}
-use Rattle.cg_files.specs.Files.{File, BreaksFile, limit}
+use Rattle.cg_files.specs.Files.{File, limit}
 use Rattle.cg_files.proofs.FirstOnes.{first_absent, first_large, named}
 use Rattle.cg_outputs.specs.declared.out_file.OutFile.{OutFile}
 use Rattle.cg_outputs.specs.Outputs.{AreOutputs}
 use Rattle.cg_words.specs.declared.command.RegOut.{RegOut}
-use Rattle.cg_words.specs.declared.command.RegOut.TheVariants.{Registers, Header, Completed}
 use Rattle.cg_block.specs.Breaks.{BreaksBlock, IsGoodFile}
 use Rattle.cg_block.proofs.FirstOnes.{file_first}
 use Rattle.cg_block.proofs.Once.{good_unbroken, good_one}

@@ -1,6 +1,5 @@
 -- How a run ends where its parts end so.
-use Rattle.std.proofs.Common.{◌≡◌, ◌⊎◌, ◌<◌, ℕ, ◌+◌, List, Option, Some, None, refl, sym, ap, ◌∙◌, subst, inl, inr, arith}
-use Rattle.cg_base.specs.Outside.{Files, Rose}
+use Rattle.std.proofs.Common.{◌≡◌, ◌<◌, ℕ, ◌+◌, List, refl, sym, ap, ◌∙◌, subst, inl, inr, arith}
 use Rattle.cg_gen.specs.declared.deed.Stream.TheVariants.{Out, Err}
 use Rattle.cg_gen.specs.declared.deed.Deed.{Deed}
 use Rattle.cg_gen.specs.declared.deed.Deed.TheVariants.{Write, Remove, Say}
@@ -9,10 +8,9 @@ use Rattle.cg_gen.specs.declared.deed.Status.{Status}
 use Rattle.cg_gen.specs.declared.deed.Status.TheVariants.{Built, Refused, NoCommand}
 use Rattle.cg_gen.specs.declared.ending.Ending.{Ending}
 use Rattle.cg_gen.specs.declared.ending.Ending.TheVariants.{Done, ReadFailed, WriteFailed, Memory}
-use Rattle.cg_gen.specs.Outside.{Outlets, World, Calm}
+use Rattle.cg_gen.specs.Outside.{World, Calm}
 use Rattle.cg_gen.specs.Deeds.{FaultRose}
 use Rattle.cg_gen.specs.Reads.{Read, GaveAll}
-use Rattle.cg_gen.specs.Due.{IsDue}
 use Rattle.cg_gen.specs.Run.{FindsIn, Performs, ReadFails, WriteFails, MemoryUnfound, Ends, Completes, Runs, number_of, code_of}
 use Rattle.cg_gen.specs.Inner.{PerformEnds}
 use Rattle.cg_gen.specs.Meaning.{WritesMeaning}

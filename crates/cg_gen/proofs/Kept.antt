@@ -1,5 +1,5 @@
 -- What the store holds after its outputs are written.
-use Rattle.std.proofs.Common.{◌≡◌, ◌≢◌, ◌⊎◌, ℕ, Bool, true, false, List, [], ◌∷◌, ◌++◌, map, Option, Some, refl, sym, ap, ◌∙◌, subst, inl, inr, cond}
+use Rattle.std.proofs.Common.{◌≡◌, ◌≢◌, ℕ, List, [], ◌∷◌, ◌++◌, map, Option, Some, refl, sym, ap, ◌∙◌, subst, inl, inr, cond}
 use Rattle.std.specs.FinMap as fin
 use Rattle.std.specs.Ordering.{nat_cmp}
 use Rattle.std.specs.Cmp.Lexicographic.{slice_cmp, nat_list_cmp_total}
@@ -12,7 +12,7 @@ use Rattle.cg_outputs.specs.declared.out_file.OutFile.{OutFile}
 use Rattle.cg_outputs.specs.Outputs.{Rises, NameBefore}
 use Rattle.cg_gen.specs.declared.deed.Stream.TheVariants.{Out}
 use Rattle.cg_gen.specs.declared.deed.Deed.TheVariants.{Say}
-use Rattle.cg_gen.specs.Deeds.{Contents, after_deeds}
+use Rattle.cg_gen.specs.Deeds.{after_deeds}
 use Rattle.cg_gen.specs.Regtool.{stored_name}
 use Rattle.cg_gen.specs.Due.{write_of}
 

@@ -1,12 +1,9 @@
 -- What is written means what was read.
-use Rattle.std.proofs.Common.{◌≡◌, ◌++◌, ℕ, List, [], ◌∷◌, map, length, Option, Some, None, refl, sym, ap, ◌∙◌, subst, inl, inr}
+use Rattle.std.proofs.Common.{◌≡◌, ℕ, List, [], ◌∷◌, length, Option, Some, refl, ap, ◌∙◌, subst}
 use Rattle.std.specs.FinMap as fin
 use Rattle.cg_base.specs.Outside.{Files}
-use Rattle.cg_svspec.specs.Names.{Among}
 use Rattle.cg_desc.specs.declared.block.LaidBlock.{LaidBlock}
-use Rattle.cg_desc.specs.declared.block.LaidFace.{LaidFace}
 use Rattle.cg_hjson.specs.declared.tree.Tree.{Tree}
-use Rattle.cg_words.specs.Words.{IsCommand}
 use Rattle.cg_words.specs.declared.command.Command.{Command}
 use Rattle.cg_words.specs.declared.command.Command.TheVariants.{Regtool, Tlgen, Topgen, Session, Probe, Sample}
 use Rattle.cg_words.specs.declared.command.RegOut.{RegOut}
@@ -21,11 +18,11 @@ use Rattle.cg_gen.specs.declared.deed.Due.{Due}
 use Rattle.cg_gen.specs.declared.deed.Status.TheVariants.{Built, Refused, NoCommand}
 use Rattle.cg_gen.specs.Outside.{World}
 use Rattle.cg_gen.specs.Deeds.{Contents, contents, after_deeds}
-use Rattle.cg_gen.specs.Reads.{Read, read, Gave, GaveAll}
-use Rattle.cg_gen.specs.Regtool.{IsGood, IsAskedFor, IsOutput, Holds, HoldsText, WritesBlock, stored_name}
+use Rattle.cg_gen.specs.Reads.{Read, read, GaveAll}
+use Rattle.cg_gen.specs.Regtool.{IsGood, IsAskedFor, IsOutput, Holds, WritesBlock}
 use Rattle.cg_gen.specs.Commands.{IsBuiltCommand, folder_of, Writes}
 use Rattle.cg_gen.specs.Commands as commands
-use Rattle.cg_gen.specs.Due.{HasReadAll, IsDue, no_command, refuses, builds, built_line, due_of_outputs}
+use Rattle.cg_gen.specs.Due.{HasReadAll, IsDue, no_command, refuses, builds, built_line}
 use Rattle.cg_gen.specs.Inner.{only_file}
 use Rattle.cg_gen.specs.Run.{Performs}
 use Rattle.cg_gen.specs.Meaning.{WritesMeaning, WritesOf}

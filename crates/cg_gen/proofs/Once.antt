@@ -1,16 +1,15 @@
 -- What is due has one status, where the files are told.
-use Rattle.std.proofs.Common.{◌≡◌, ◌⊎◌, ℕ, List, [], ◌∷◌, ◌++◌, Option, Some, None, refl, sym, ap, ◌∙◌, subst, inl, inr}
+use Rattle.std.proofs.Common.{◌≡◌, ◌⊎◌, ℕ, List, [], ◌∷◌, Option, Some, refl, sym, ap, ◌∙◌, subst, inl, inr}
 use Rattle.std.specs.FinMap as fin
 use Rattle.cg_base.specs.Outside.{Files}
 use Rattle.cg_desc.specs.declared.fault.Fault.{Fault}
-use Rattle.cg_finding.specs.Violations.{IsFirstFault}
 use Rattle.cg_words.specs.Words.{IsCommand}
 use Rattle.cg_words.specs.declared.command.Command.{Command}
 use Rattle.cg_words.specs.declared.command.Command.TheVariants.{Regtool, Tlgen, Topgen, Session, Probe, Sample}
 use Rattle.cg_words.specs.declared.command.RegOut.{RegOut}
 use Rattle.cg_words.proofs.ExactWords.{one_command}
 use Rattle.cg_gen.specs.declared.deed.Due.{Due}
-use Rattle.cg_gen.specs.Reads.{Read, read, Gave, GaveAll}
+use Rattle.cg_gen.specs.Reads.{Read, read, GaveAll}
 use Rattle.cg_gen.specs.Commands.{IsBuiltCommand, Violates}
 use Rattle.cg_gen.specs.Due.{HasReadAll, IsDue, no_command, refuses, builds}
 use Rattle.cg_gen.proofs.Planning.{read_so}

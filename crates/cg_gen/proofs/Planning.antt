@@ -7,9 +7,8 @@ use Rattle.cg_words.specs.declared.command.Command.TheVariants.{Regtool}
 use Rattle.cg_words.specs.declared.command.RegOut.{RegOut}
 use Rattle.cg_words.proofs.ExactWords.{one_command}
 use Rattle.cg_gen.specs.declared.deed.Due.{Due}
-use Rattle.cg_gen.specs.Reads.{Read, read, Gave, GaveAll, names_of}
-use Rattle.cg_gen.specs.Regtool as regtool
-use Rattle.cg_gen.specs.Commands.{IsBuiltCommand, NextRead}
+use Rattle.cg_gen.specs.Reads.{Read, read, Gave}
+use Rattle.cg_gen.specs.Commands.{IsBuiltCommand}
 use Rattle.cg_gen.specs.Due.{HasRead, none, one_more, HasReadAll, IsDue, no_command, refuses, builds, due_of_no_command}
 use Rattle.cg_gen.specs.Inner as inner
 use Rattle.cg_gen.specs.declared.given.Given.{Given}

@@ -1,11 +1,11 @@
 -- Where a run stopped among its deeds.
-use Rattle.std.proofs.Common.{◌≡◌, ◌⊎◌, ◌++◌, ◌≤◌, ℕ, List, [], ◌∷◌, min, ◌+◌, ◌-◌, ◌^◌, refl, sym, ap, subst, inl, inr, arith}
+use Rattle.std.proofs.Common.{◌≤◌, ℕ, List, [], ◌∷◌, sym, ap, subst, inl, inr, arith}
 use Rattle.cg_base.specs.Outside.{Rose}
 use Rattle.cg_gen.specs.declared.deed.Stream.TheVariants.{Out, Err}
 use Rattle.cg_gen.specs.declared.deed.Deed.{Deed}
 use Rattle.cg_gen.specs.declared.deed.Deed.TheVariants.{Write, Remove, Say}
 use Rattle.cg_gen.specs.Outside.{Outlets, Later}
-use Rattle.cg_gen.specs.Deeds.{Contents, after_deed, after_deeds, Begun, FaultRose, StoppedAt}
+use Rattle.cg_gen.specs.Deeds.{Contents, after_deed, Begun, FaultRose, StoppedAt}
 use Rattle.cg_gen.specs.Inner.{Stopped}
 
 -- the deeds in front of it, and those behind

@@ -1,5 +1,5 @@
 -- What a run is to do, by its words and by what the store gave for the files that they name.
-use Rattle.std.specs.Prelude.{◌≡◌, ℕ, List, [], ◌∷◌, ◌++◌, map, length, codes}
+use Rattle.std.specs.Prelude.{ℕ, List, [], ◌∷◌, ◌++◌, map, length, codes}
 use Rattle.std.specs.Fmt.{decimal}
 use Rattle.cg_desc.specs.FaultText.{fault_line}
 use Rattle.cg_desc.specs.declared.fault.Fault.{Fault}

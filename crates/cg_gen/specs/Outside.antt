@@ -1,5 +1,5 @@
 -- What the outside shows at a moment.
-use Rattle.std.specs.Prelude.{◌≡◌, ◌≤◌, ℕ, List, Option}
+use Rattle.std.specs.Prelude.{◌≤◌, ℕ, List, Option}
 use Rattle.cg_base.specs.Outside.{Files, Rose}
 
 -- what deeds change: the store's files and what the streams took, each with its count of faults

@@ -1,4 +1,4 @@
-use Rattle.std.proofs.Common.{◌≡◌, [], ap, ◌∙◌, sym, subst, map}
+use Rattle.std.proofs.Common.{[], ap, ◌∙◌, sym, subst, map}
 use Rattle.cg_sv.specs.Views.{module_of}
 use Rattle.cg_outputs.specs.Inner.{put_outputs}
 use Rattle.cg_outputs.specs.Outputs.{AreOutputs}

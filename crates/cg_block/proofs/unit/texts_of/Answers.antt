@@ -1,4 +1,3 @@
-use Rattle.std.proofs.Common.{sym, subst, Some}
 use Rattle.cg_files.proofs.FirstOnes.{named}
 use Rattle.cg_block.proofs.FirstOnes.{clash_first}
 use Rattle.cg_block.proofs.Modules.{few_faces, is_named}

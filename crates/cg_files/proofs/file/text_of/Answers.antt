@@ -1,4 +1,4 @@
-use Rattle.std.proofs.Common.{◌<◌, arith, sym, subst, refl, inl, inr, length}
+use Rattle.std.proofs.Common.{arith, sym, subst, refl, inl, inr}
 use Rattle.std.specs.Str.{IsValidUpTo}
 use Rattle.cg_files.specs.Files.{IsTooLarge, some_file}
 use Rattle.cg_files.proofs.FirstOnes.{first_large, first_not_utf8, named}

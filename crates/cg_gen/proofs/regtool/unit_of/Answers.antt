@@ -1,7 +1,7 @@
-use Rattle.std.proofs.Common.{◌≡◌, ℕ, List, Option, Some, None, sym, subst}
+use Rattle.std.proofs.Common.{◌≡◌, None, sym, subst}
 use Rattle.cg_finding.specs.Violations.{RefusesFirst}
 use Rattle.cg_block.specs.Breaks.{BreaksBlock}
-use Rattle.cg_gen.specs.Inner.{IsGiven, only_file}
+use Rattle.cg_gen.specs.Inner.{only_file}
 use Rattle.cg_gen.proofs.Describing.{absent_refused, large_refused}
 use Rattle.cg_gen.proofs.regtool.unit_of.Goals as goal
 
