@@ -9,5 +9,12 @@ pub mod Items
 pub mod Offsets
 pub mod Valid
 pub mod Crossbar
+pub mod Ranges
+pub mod Top
+pub mod Ends
+pub mod Bases
+pub mod Merged
+pub mod Reach
+pub mod AddressMap
 pub mod Faults
 pub mod FaultText

@@ -15,6 +15,7 @@ mod crossbar;
 mod fault;
 mod fault_line;
 mod place;
+mod top;
 
 pub use address::{Place, each_address_has_one_target};
 pub use block::{
@@ -26,6 +27,10 @@ pub use crossbar::{NodeDesc, NodeRanges, Range, XbarDesc};
 pub use fault::{DescFault, Fault, faults_are_ordered};
 pub use fault_line::fault_text;
 pub use place::At;
+pub use top::{
+    FaceBase, InstDesc, Joint, MergedTop, NamePair, NodeEnd, SignalDesc, SpaceBase, SpaceDesc,
+    TopDesc, XbarEnds, XbarUse,
+};
 
 #[cfg(test)]
 mod tests;
