@@ -13,7 +13,7 @@ use Rattle.cg_outputs.specs.Outputs.{Rises, NameBefore}
 use Rattle.cg_gen.specs.declared.deed.Stream.TheVariants.{Out}
 use Rattle.cg_gen.specs.declared.deed.Deed.TheVariants.{Say}
 use Rattle.cg_gen.specs.Deeds.{after_deeds}
-use Rattle.cg_gen.specs.Regtool.{stored_name}
+use Rattle.cg_gen.specs.OneFile.{stored_name}
 use Rattle.cg_gen.specs.Due.{write_of}
 
 -- the files after these outputs were written into a folder

@@ -1,7 +1,8 @@
 pub mod Lists
 pub mod Stopping
 pub mod Reading
-pub mod Describing
+pub mod Units
+pub mod OneFile
 pub mod Planning
 pub mod Once
 pub mod Endings

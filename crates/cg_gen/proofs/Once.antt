@@ -12,24 +12,17 @@ use Rattle.cg_gen.specs.declared.deed.Due.{Due}
 use Rattle.cg_gen.specs.Reads.{Read, read, GaveAll}
 use Rattle.cg_gen.specs.Commands.{IsBuiltCommand, Violates}
 use Rattle.cg_gen.specs.Due.{HasReadAll, IsDue, no_command, refuses, builds}
-use Rattle.cg_gen.proofs.Planning.{read_so}
-
--- all that was read is the description, as it is
-pub regtool_reads : (m : Files) (made : RegOut) (dir file : List ℕ) (reads : List Read) → GaveAll (Some m) reads → HasReadAll (Regtool made dir file) reads
-    → reads ≡ read file (fin.get m file) ∷ []
-regtool_reads m made dir file reads gave has = by (read_so made dir file reads has.has_read) where
-  by : (reads ≡ []) ⊎ ((g : Option (List ℕ)) × (reads ≡ read file g ∷ [])) → reads ≡ read file (fin.get m file) ∷ []
-  by (inl empty) = absurd (has.all file (record { first = empty; description = refl }))
-  by (inr (g, is)) =
-      let told : fin.get m file ≡ g = (subst (GaveAll (Some m)) is gave).0 m refl in
-      is ∙ ap (λ x. read file x ∷ []) (sym told)
+use Rattle.cg_gen.proofs.Planning.{regtool_reads_one, tlgen_reads_one, reads_are}
 
 -- a command's reads are determined
 pub same_reads : (m : Files) (c : Command) → IsBuiltCommand c → (reads others : List Read) → GaveAll (Some m) reads → GaveAll (Some m) others → HasReadAll c reads → HasReadAll c others
     → reads ≡ others
 same_reads m (Regtool made dir file) built reads others gave gave' has has' =
-    regtool_reads m made dir file reads gave has ∙ sym (regtool_reads m made dir file others gave' has')
-same_reads m (Tlgen file dir) built reads others gave gave' has has' = absurd built
+    let one = regtool_reads_one made dir file in
+    reads_are (Regtool made dir file) file one m reads gave has ∙ sym (reads_are (Regtool made dir file) file one m others gave' has')
+same_reads m (Tlgen file dir) built reads others gave gave' has has' =
+    let one = tlgen_reads_one file dir in
+    reads_are (Tlgen file dir) file one m reads gave has ∙ sym (reads_are (Tlgen file dir) file one m others gave' has')
 same_reads m (Topgen file dir workers) built reads others gave gave' has has' = absurd built
 same_reads m (Session file dir workers) built reads others gave gave' has has' = absurd built
 same_reads m (Probe dir host address) built reads others gave gave' has has' = absurd built
@@ -38,7 +31,7 @@ same_reads m (Sample number) built reads others gave gave' has has' = absurd bui
 -- a command with a violation is built
 pub built_of : (c : Command) (reads : List Read) (fault : Fault) → Violates c reads fault → IsBuiltCommand c
 built_of (Regtool made dir file) reads fault v = tt
-built_of (Tlgen file dir) reads fault v = absurd v
+built_of (Tlgen file dir) reads fault v = tt
 built_of (Topgen file dir workers) reads fault v = absurd v
 built_of (Session file dir workers) reads fault v = absurd v
 built_of (Probe dir host address) reads fault v = absurd v

@@ -1,73 +1,105 @@
 -- What is due for the words, from what the pieces say.
 use Rattle.std.proofs.Common.{◌≡◌, ◌⊎◌, ℕ, List, [], ◌∷◌, ◌++◌, append-nil, Option, Some, None, Result, Ok, Err, IfOk, IfErr, refl, sym, ap, ◌∙◌, subst, inl, inr}
+use Rattle.std.specs.FinMap as fin
 use Rattle.cg_base.specs.Outside.{Files, Rose, also_asked}
 use Rattle.cg_words.specs.Words.{IsCommand}
 use Rattle.cg_words.specs.declared.command.Command.{Command}
-use Rattle.cg_words.specs.declared.command.Command.TheVariants.{Regtool}
+use Rattle.cg_words.specs.declared.command.Command.TheVariants.{Regtool, Tlgen}
 use Rattle.cg_words.specs.declared.command.RegOut.{RegOut}
 use Rattle.cg_words.proofs.ExactWords.{one_command}
 use Rattle.cg_gen.specs.declared.deed.Due.{Due}
-use Rattle.cg_gen.specs.Reads.{Read, read, Gave}
-use Rattle.cg_gen.specs.Commands.{IsBuiltCommand}
+use Rattle.cg_gen.specs.OneFile as one
+use Rattle.cg_gen.specs.Reads.{Read, read, Gave, GaveAll}
+use Rattle.cg_gen.specs.Commands.{IsBuiltCommand, NextRead}
 use Rattle.cg_gen.specs.Due.{HasRead, none, one_more, HasReadAll, IsDue, no_command, refuses, builds, due_of_no_command}
 use Rattle.cg_gen.specs.Inner as inner
 use Rattle.cg_gen.specs.declared.given.Given.{Given}
 use Rattle.cg_gen.specs.declared.stop.Stop.{Stop}
 use Rattle.cg_gen.specs.declared.stop.Stop.TheVariants as stop
-use Rattle.cg_gen.specs.Inner.{IsDueFor, PlanEnds}
+use Rattle.cg_gen.specs.Inner.{IsDueFrom, PlanEnds}
 use Rattle.cg_gen.specs.Run.{Finds, NextReadFails}
 
--- ---- the reads of regtool
+-- ---- a command that reads one description
 
 -- a list with an item at its end is not empty
 not_empty : {X : Type 0} (xs : List X) (x : X) → xs ++ x ∷ [] ≡ [] → ⊥
 not_empty [] x e = cc
 not_empty (y ∷ ys) x e = cc
 
--- it has read its description
-pub has_read : (made : RegOut) (dir file : List ℕ) (g : Option (List ℕ)) → HasReadAll (Regtool made dir file) (read file g ∷ [])
-has_read made dir file g = record {
-  has_read = one_more [] (read file g) none (record { first = refl; description = refl });
-  all = λ name next. let bad : ◌≡◌ {A = List Read} (read file g ∷ []) [] = next.first in cc;
-}
+-- the command reads this file, and no other
+pub record ReadsOne (c : Command) (file : List ℕ) : Type 0 where
+  pub into : (reads : List Read) (name : List ℕ) → one.NextRead file reads name → NextRead c reads name
+  pub back : (reads : List Read) (name : List ℕ) → NextRead c reads name → one.NextRead file reads name
 
--- it reads nothing first, and then nothing but its description
-pub read_so : (made : RegOut) (dir file : List ℕ) (reads : List Read) → HasRead (Regtool made dir file) reads → (reads ≡ []) ⊎ ((g : Option (List ℕ)) × (reads ≡ read file g ∷ []))
-read_so made dir file _ none = inl refl
-read_so made dir file _ (one_more before next has is) =
-    inr (next.given, (λ i. is.first i ++ (record { name = is.description i; given = next.given }) ∷ []))
+pub regtool_reads_one : (made : RegOut) (dir file : List ℕ) → ReadsOne (Regtool made dir file) file
+regtool_reads_one made dir file = record { into = λ reads name is. is; back = λ reads name is. is }
 
--- ---- what is due
+pub tlgen_reads_one : (file dir : List ℕ) → ReadsOne (Tlgen file dir) file
+tlgen_reads_one file dir = record { into = λ reads name is. is; back = λ reads name is. is }
 
--- what is due for the description is due for the words
-pub described_due : (words : List (List ℕ)) (made : RegOut) (dir file : List ℕ) (g : Option (List ℕ)) (due : Due) → IsCommand words (Regtool made dir file)
-    → IsDueFor made dir (read file g) due → IsDue words (read file g ∷ []) due
-described_due words made dir file g due is (inner.refuses fault first same) =
-    subst (IsDue words (read file g ∷ [])) (sym same) (refuses (read file g ∷ []) fault (Regtool made dir file) is (has_read made dir file g) first)
-described_due words made dir file g due is (inner.builds outputs sound good are same) =
-    subst (IsDue words (read file g ∷ [])) (sym same) (builds (read file g ∷ []) (Regtool made dir file) outputs is tt (has_read made dir file g) sound good are)
+module _ (c : Command) (file : List ℕ) (reads_one : ReadsOne c file) where
+  first_read : NextRead c [] file
+  first_read = reads_one.into [] file (record { first = refl; description = refl })
 
--- the description was read, and this is due for it
-pub planned : (words : List (List ℕ)) (files : Option Files) (asked asked' : Option (List (List ℕ))) (made : RegOut) (dir file : List ℕ) (g : Option (List ℕ)) (due : Due)
-    → IsCommand words (Regtool made dir file) → Gave files (read file g) → asked' ≡ also_asked asked (file ∷ []) → IsDueFor made dir (read file g) due
-    → (reads : List Read) × Finds words files asked asked' reads due
-planned words files asked asked' made dir file g due is gave told for =
-    (read file g ∷ [], record { gave = (gave, tt); asked_for = told; is_due = described_due words made dir file g due is for })
+  -- it has read its description
+  pub has_read : (g : Option (List ℕ)) → HasReadAll c (read file g ∷ [])
+  has_read g = record {
+    has_read = one_more [] (read file g) none first_read;
+    all = λ name next. let bad : ◌≡◌ {A = List Read} (read file g ∷ []) [] = (reads_one.back (read file g ∷ []) name next).first in cc;
+  }
 
--- the read of the description failed
-pub read_failed : (words : List (List ℕ)) (files : Option Files) (asked asked' : Option (List (List ℕ))) (made : RegOut) (dir file : List ℕ) (faults faults' : ℕ)
-    → IsCommand words (Regtool made dir file) → asked' ≡ also_asked asked (file ∷ []) → Rose faults faults' → NextReadFails words files asked asked' faults faults'
-read_failed words files asked asked' made dir file faults faults' is told rose = record {
-  command = Regtool made dir file;
-  is_command = is;
-  reads = [];
-  gave = tt;
-  has_read = none;
-  next = file;
-  is_next = record { first = refl; description = refl };
-  asked_for = told;
-  rose = rose;
-}
+  -- it reads nothing first, and then nothing but its description
+  pub read_so : (reads : List Read) → HasRead c reads → (reads ≡ []) ⊎ ((g : Option (List ℕ)) × (reads ≡ read file g ∷ []))
+  read_so _ none = inl refl
+  read_so _ (one_more before next has is) =
+      let so = reads_one.back before next.name is in
+      inr (next.given, (λ i. so.first i ++ (record { name = so.description i; given = next.given }) ∷ []))
+
+  -- what is due for the description is due for the words
+  pub described_due : (words : List (List ℕ)) (g : Option (List ℕ)) (due : Due) → IsCommand words c → IsBuiltCommand c → IsDueFrom c (read file g ∷ []) due
+      → IsDue words (read file g ∷ []) due
+  described_due words g due is built (inner.refuses fault first same) =
+      subst (IsDue words (read file g ∷ [])) (sym same) (refuses (read file g ∷ []) fault c is (has_read g) first)
+  described_due words g due is built (inner.builds outputs sound good are same) =
+      subst (IsDue words (read file g ∷ [])) (sym same) (builds (read file g ∷ []) c outputs is built (has_read g) sound good are)
+
+  -- the description was read, and this is due for it
+  pub planned : (words : List (List ℕ)) (files : Option Files) (asked asked' : Option (List (List ℕ))) (g : Option (List ℕ)) (due : Due)
+      → IsCommand words c → IsBuiltCommand c → Gave files (read file g) → asked' ≡ also_asked asked (file ∷ []) → IsDueFrom c (read file g ∷ []) due
+      → (reads : List Read) × Finds words files asked asked' reads due
+  planned words files asked asked' g due is built gave told for =
+      (read file g ∷ [], record { gave = (gave, tt); asked_for = told; is_due = described_due words g due is built for })
+
+  -- the read of the description failed
+  pub read_failed : (words : List (List ℕ)) (files : Option Files) (asked asked' : Option (List (List ℕ))) (faults faults' : ℕ)
+      → IsCommand words c → asked' ≡ also_asked asked (file ∷ []) → Rose faults faults' → NextReadFails words files asked asked' faults faults'
+  read_failed words files asked asked' faults faults' is told rose = record {
+    command = c;
+    is_command = is;
+    reads = [];
+    gave = tt;
+    has_read = none;
+    next = file;
+    is_next = first_read;
+    asked_for = told;
+    rose = rose;
+  }
+
+  -- a read that was stopped
+  pub read_stopped : (e : Stop) (words : List (List ℕ)) (files : Option Files) (asked asked' : Option (List (List ℕ))) (faults faults' : ℕ)
+      → IsCommand words c → asked' ≡ also_asked asked (file ∷ []) → (◌≡◌ {A = Result Given Stop} (Err e) (Err stop.Failed) → Rose faults faults')
+      → PlanEnds (Err e) words files asked asked' faults faults'
+  read_stopped stop.Failed words files asked asked' faults faults' is told rose = read_failed words files asked asked' faults faults' is told (rose refl)
+  read_stopped stop.Memory words files asked asked' faults faults' is told rose = tt
+
+  -- all that was read is the description, as it is
+  pub reads_are : (m : Files) (reads : List Read) → GaveAll (Some m) reads → HasReadAll c reads → reads ≡ read file (fin.get m file) ∷ []
+  reads_are m reads gave has = by (read_so reads has.has_read) where
+    by : (reads ≡ []) ⊎ ((g : Option (List ℕ)) × (reads ≡ read file g ∷ [])) → reads ≡ read file (fin.get m file) ∷ []
+    by (inl empty) = absurd (has.all file (reads_one.into reads file (record { first = empty; description = refl })))
+    by (inr (g, is)) =
+        let told : fin.get m file ≡ g = (subst (GaveAll (Some m)) is gave).0 m refl in
+        is ∙ ap (λ x. read file x ∷ []) (sym told)
 
 -- ---- words that are no command that is built
 
@@ -83,13 +115,6 @@ usage_planned words files asked asked' due other told same =
 -- of two commands that words are, both are built or none
 pub not_built : (words : List (List ℕ)) (c : Command) → IsCommand words c → ¬ IsBuiltCommand c → (d : Command) → IsBuiltCommand d → ¬ IsCommand words d
 not_built words c is other d built also = other (subst IsBuiltCommand (one_command words d c also is) built)
-
--- a read that was stopped
-pub read_stopped : (e : Stop) (words : List (List ℕ)) (files : Option Files) (asked asked' : Option (List (List ℕ))) (made : RegOut) (dir file : List ℕ) (faults faults' : ℕ)
-    → IsCommand words (Regtool made dir file) → asked' ≡ also_asked asked (file ∷ []) → (◌≡◌ {A = Result Given Stop} (Err e) (Err stop.Failed) → Rose faults faults')
-    → PlanEnds (Err e) words files asked asked' faults faults'
-read_stopped stop.Failed words files asked asked' made dir file faults faults' is told rose = read_failed words files asked asked' made dir file faults faults' is told (rose refl)
-read_stopped stop.Memory words files asked asked' made dir file faults faults' is told rose = tt
 
 -- the usage text, as far as memory was found
 pub usage_ends : (words : List (List ℕ)) (files : Option Files) (asked : Option (List (List ℕ))) (faults : ℕ) (r : Result Due Stop) → ((c : Command) → IsBuiltCommand c → ¬ IsCommand words c)

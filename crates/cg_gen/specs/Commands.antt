@@ -7,30 +7,36 @@ use Rattle.cg_words.specs.declared.command.Command.{Command}
 use Rattle.cg_words.specs.declared.command.Command.TheVariants.{Regtool, Tlgen, Topgen, Session, Probe, Sample}
 use Rattle.cg_gen.specs.Reads.{Read}
 use Rattle.cg_gen.specs.Regtool as regtool
+use Rattle.cg_gen.specs.Tlgen as tlgen
 
 -- the others are answered by the usage text
 abbrev pub IsBuiltCommand : Command → Type 0
 IsBuiltCommand (Regtool made dir file) = Unit {0}
+IsBuiltCommand (Tlgen file dir) = Unit {0}
 IsBuiltCommand _ = ⊥
 
 -- behind these reads the command reads the file of this name next
 abbrev pub NextRead : Command → List Read → List ℕ → Type 0
 NextRead (Regtool made dir file) reads name = regtool.NextRead file reads name
+NextRead (Tlgen file dir) reads name = tlgen.NextRead file reads name
 NextRead _ reads name = ⊥
 
 -- the files that it read break a rule
 abbrev pub Violates : Command → List Read → Fault → Type 0
 Violates (Regtool made dir file) reads fault = regtool.Violates reads fault
+Violates (Tlgen file dir) reads fault = tlgen.Violates reads fault
 Violates _ reads fault = ⊥
 
 -- the files that it read describe what can be built
 abbrev pub IsGood : Command → List Read → Type 0
 IsGood (Regtool made dir file) reads = regtool.IsGood reads
+IsGood (Tlgen file dir) reads = tlgen.IsGood reads
 IsGood _ reads = ⊥
 
 -- it writes this file into its folder
 abbrev pub IsOutput : Command → List Read → OutFile → Type 0
 IsOutput (Regtool made dir file) reads o = regtool.IsOutput made reads o
+IsOutput (Tlgen file dir) reads o = tlgen.IsOutput reads o
 IsOutput _ reads o = ⊥
 
 -- the folder of its outputs
@@ -45,4 +51,5 @@ folder_of (Sample number) = []
 -- what the files after a good run mean
 abbrev pub Writes : Command → Files → Files → Type 0
 Writes (Regtool made dir file) before after = regtool.WritesBlock made dir file before after
+Writes (Tlgen file dir) before after = tlgen.WritesCrossbar dir file before after
 Writes _ before after = ⊥

@@ -15,7 +15,7 @@ use Rattle.cg_gen.specs.declared.deed.Status.{Status}
 use Rattle.cg_gen.specs.declared.deed.Status.TheVariants.{Built, Refused, NoCommand}
 use Rattle.cg_gen.specs.declared.deed.Due.{Due}
 use Rattle.cg_gen.specs.Reads.{Read, name_of_file}
-use Rattle.cg_gen.specs.Regtool.{stored_name}
+use Rattle.cg_gen.specs.OneFile.{stored_name}
 use Rattle.cg_gen.specs.Commands.{IsBuiltCommand, NextRead, Violates, IsGood, IsOutput, folder_of}
 
 -- a text as a line

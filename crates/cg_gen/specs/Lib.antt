@@ -1,7 +1,9 @@
 pub mod Outside
 pub mod Deeds
 pub mod Reads
+pub mod OneFile
 pub mod Regtool
+pub mod Tlgen
 pub mod Commands
 pub mod Due
 pub mod Meaning

@@ -2,7 +2,7 @@
 
 ghost use Rattle.std.specs.Prelude.{◌≡◌, map, string_bytes, IfOk, IfErr, Option, List, ℕ};
 ghost use Rattle.cg_words.specs.Words.{IsCommand};
-ghost use Rattle.cg_words.specs.declared.command.Command.TheVariants.{Regtool};
+ghost use Rattle.cg_words.specs.declared.command.Command.TheVariants.{Regtool, Tlgen};
 ghost use Rattle.cg_gen.specs.Due.{due_of_no_command};
 ghost use Rattle.cg_gen.specs.Inner.{PlanEnds};
 
@@ -10,6 +10,7 @@ use crate::deed::Due;
 use crate::given::read_file;
 use crate::regtool::regtool_due;
 use crate::stop::Stop;
+use crate::tlgen::tlgen_due;
 use crate::told::usage_due;
 use cg_base::{Memory, Store};
 use cg_words::{Command, RegOut, WordsFault, read_words};
@@ -37,6 +38,22 @@ fn regtool<S: Store>(
     }
 }
 
+/// `tlgen`: the description is read, and its first fault is told or its text is written.
+fn tlgen<S: Store>(alloc: Global, file: &str, dir: &str, store: &mut S) -> Result<Due, Stop>
+    ensures ends { (words : List (List ℕ)) → IsCommand words (Tlgen file.now dir.now) → PlanEnds result words (S.content store.old) (S.asked store.old) (S.asked store.new) (S.read_faults store.old) (S.read_faults store.new) }
+    ensures same { S.content store.new ≡ S.content store.old }
+    ensures changes { S.change_faults store.new ≡ S.change_faults store.old }
+{
+    let given = match read_file(alloc, file, store) {
+        Ok(given) => given,
+        Err(stop) => return Err(stop),
+    };
+    match tlgen_due(alloc, file, dir, &given) {
+        Ok(due) => Ok(due),
+        Err(Memory) => Err(Stop::Memory),
+    }
+}
+
 /// The usage text is due.
 fn usage(alloc: Global) -> Result<Due, Stop>
     ensures due { IfOk result (λ d. d ≡ due_of_no_command) }
@@ -58,7 +75,7 @@ pub fn plan<S: Store>(alloc: Global, words: &[String], store: &mut S) -> Result<
         Ok(Command::Regtool { made, dir, file }) => {
             regtool(alloc, made, dir.as_str(), file.as_str(), store)
         }
-        Ok(Command::Tlgen { .. }) => usage(alloc),
+        Ok(Command::Tlgen { file, dir }) => tlgen(alloc, file.as_str(), dir.as_str(), store),
         Ok(Command::Topgen { .. }) => usage(alloc),
         Ok(Command::Session { .. }) => usage(alloc),
         Ok(Command::Probe { .. }) => usage(alloc),

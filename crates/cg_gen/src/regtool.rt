@@ -1,13 +1,14 @@
 //! `regtool`: one block, from its description to its register texts, its header or its completed description.
 
-ghost use Rattle.std.specs.Prelude.{◌≡◌, IfOk, Option, List, ℕ};
+ghost use Rattle.std.specs.Prelude.{◌≡◌, [], ◌∷◌, IfOk, Option, List, ℕ};
 ghost use Rattle.cg_files.specs.Files.{File};
 ghost use Rattle.cg_outputs.specs.Outputs.{AreOutputs};
 ghost use Rattle.cg_block.specs.Breaks.{FindsInFile};
 ghost use Rattle.cg_block.specs.Unit.{IsUnitOf};
-ghost use Rattle.cg_gen.specs.Reads.{Gave, read};
-ghost use Rattle.cg_gen.specs.Regtool.{IsAskedFor};
-ghost use Rattle.cg_gen.specs.Inner.{IsGiven, IsDueFor, only_file};
+ghost use Rattle.cg_words.specs.declared.command.Command.TheVariants.{Regtool};
+ghost use Rattle.cg_gen.specs.Reads.{read};
+ghost use Rattle.cg_gen.specs.Regtool.{IsAskedFor, block};
+ghost use Rattle.cg_gen.specs.Inner.{IsGiven, IsDueFrom, only_file};
 
 use crate::deed::Due;
 use crate::given::Given;
@@ -43,7 +44,7 @@ fn alone(alloc: Global, output: OutFile) -> Result<List<OutFile>, Memory>
 /// The outputs that are asked for.
 fn outputs_of(alloc: Global, made: RegOut, unit: &BlockUnit) -> Result<List<OutFile>, Memory>
     requires { (file : File) × IsUnitOf file unit.now }
-    ensures { IfOk result (λ os. AreOutputs (IsAskedFor made unit.now.tree unit.now.laid) os) }
+    ensures { IfOk result (λ os. AreOutputs (IsAskedFor made (block unit.now.tree unit.now.laid)) os) }
 {
     match made {
         RegOut::Registers => register_outputs(alloc, unit),
@@ -60,7 +61,7 @@ pub fn regtool_due(
     file: &str,
     given: &Given,
 ) -> Result<Due, Memory>
-    ensures { (g : Option (List ℕ)) → IsGiven given.now g → IfOk result (λ due. IsDueFor made dir.now (read file.now g) due) }
+    ensures { (g : Option (List ℕ)) → IsGiven given.now g → IfOk result (λ due. IsDueFrom (Regtool made dir.now file.now) (read file.now g ∷ []) due) }
 {
     match unit_of(alloc, given) {
         Ok(unit) => {

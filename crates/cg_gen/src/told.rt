@@ -3,7 +3,7 @@
 ghost use Rattle.std.specs.Prelude.{◌≡◌, map, length, IfOk};
 ghost use Rattle.cg_desc.specs.FaultText.{fault_line};
 ghost use Rattle.cg_gen.specs.declared.deed.Status.TheVariants.{Refused};
-ghost use Rattle.cg_gen.specs.Regtool.{stored_name};
+ghost use Rattle.cg_gen.specs.OneFile.{stored_name};
 ghost use Rattle.cg_gen.specs.Due.{line, usage, built_line, write_of, due_of_line, due_of_outputs, due_of_no_command};
 
 use crate::deed::{Deed, Due, Status, Stream};

@@ -8,6 +8,7 @@ use crate::plan::plan;
 use crate::stop::Stop;
 use cg_base::{Gate, Sink, Source, Steps, Store};
 use cg_block::{block_outputs_mean, one_block_or_none};
+use cg_crossbar::{crossbar_output_means, one_crossbar_or_none};
 use cg_outputs::outputs_are_one_list;
 use std::alloc::Global;
 use std::sync::ledger::Ledger;
@@ -38,7 +39,8 @@ fn run_words<S: Store, I: Source, O: Sink, E: Sink>(
 ///
 /// `words` leave out the program's name. With `regtool (-r|-D|-j) -t DIR FILE` the description FILE is read, and the register text of
 /// each device interface of its block (`-r`), its C header (`-D`) or its completed description (`-j`) is written into DIR (OpenTitan
-/// Register Tool). Other commands are not built yet. `input`, `gate` and `steps` are not used by this command, and no thread is
+/// Register Tool). With `tlgen -t FILE -o DIR` the description FILE is read, and the text of its crossbar is written into DIR (OpenTitan
+/// Crossbar Tool). Other commands are not built yet. `input`, `gate` and `steps` are not used by these commands, and no thread is
 /// started.
 ///
 /// The status is 0 where the outputs were written and told, 1 where the description has a first fault, 2 where the words are no
@@ -63,6 +65,8 @@ pub fn run<R: Threads + Sync, S: Store, I: Source, O: Sink, E: Sink, G: Gate + S
 {
     block_outputs_mean();
     one_block_or_none();
+    crossbar_output_means();
+    one_crossbar_or_none();
     outputs_are_one_list();
     run_words(alloc, words, store, input, out, err).code()
 }

@@ -1,0 +1,3 @@
+pub mod FirstOnes
+pub mod Once
+pub mod Ranges
