@@ -1,0 +1,4 @@
+pub mod Violations
+pub mod Answers
+pub mod Rows
+pub mod Shared
