@@ -1,1 +1,5 @@
 pub mod Looking
+pub mod Marking
+pub mod Joining
+pub mod Shapes
+pub mod Covering

@@ -1,4 +1,5 @@
+pub mod Shared
 pub mod Violations
 pub mod Answers
 pub mod Rows
-pub mod Shared
+pub mod Inner

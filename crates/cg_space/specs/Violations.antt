@@ -1,11 +1,11 @@
 -- What a merged top breaks of the rules on nested crossbars and ranges, each as a fact with its file, its place and its name (OpenTitan
 -- Top Generation Tool, Crossbar Tool).
-use Rattle.std.specs.Prelude.{◌≡◌, ◌⊎◌, ℕ, ◌<◌, false, List, [], slice_get, Some}
+use Rattle.std.specs.Prelude.{◌≡◌, ◌⊎◌, ℕ, ◌<◌, false, List, []}
 use Rattle.cg_svspec.specs.Names.{Among}
 use Rattle.cg_desc.specs.Crossbar.{NodeIs, Connects}
 use Rattle.cg_desc.specs.Ends.{CrossbarIs}
 use Rattle.cg_desc.specs.Merged.{design_of, EndAt}
-use Rattle.cg_desc.specs.Ranges.{RangeHolds, SomeHolds, IsRange}
+use Rattle.cg_desc.specs.Ranges.{SomeHolds, IsRange}
 use Rattle.cg_desc.specs.Reach.{Leads, NoCircle, HasRanges}
 use Rattle.cg_desc.specs.declared.crossbar.NodeDesc.{NodeDesc}
 use Rattle.cg_desc.specs.declared.crossbar.Range.{Range}
@@ -15,6 +15,7 @@ use Rattle.cg_desc.specs.declared.top.MergedTop.{MergedTop}
 use Rattle.cg_desc.specs.declared.top.NodeEnd.TheVariants.{Xbar}
 use Rattle.cg_finding.specs.Finding.{in_file}
 use Rattle.cg_finding.specs.Rules as rules
+use Rattle.cg_space.specs.Shared.{SharesAt}
 
 -- node n of crossbar x is this device
 pub record DeviceAt (m : MergedTop) (x n : ℕ) (xbar : XbarDesc) (node : NodeDesc) : Type 0 where
@@ -41,17 +42,8 @@ abbrev pub HasBadRanges : MergedTop → ℕ → ℕ → Type 0
 HasBadRanges m x n = (ranges : List Range) × HasRanges m x n ranges × IsBadList ranges
 
 -- a range of the list shares an address with an earlier one
-pub record ShareWithin (ranges : List Range) : Type 0 where
-  pub i : ℕ
-  pub j : ℕ
-  pub order : i < j
-  pub earlier : Range
-  pub later : Range
-  pub earlier_is : slice_get ranges i ≡ Some earlier
-  pub later_is : slice_get ranges j ≡ Some later
-  pub address : ℕ
-  pub earlier_holds : RangeHolds earlier address
-  pub later_holds : RangeHolds later address
+abbrev pub ShareWithin : List Range → Type 0
+ShareWithin ranges = (j : ℕ) × SharesAt ranges j
 
 -- a range of device n of crossbar x shares an address with one of an earlier device there, to which a host connects that connects to both
 pub record SharesWithEarlier (m : MergedTop) (x n : ℕ) (xbar : XbarDesc) (ranges : List Range) : Type 0 where

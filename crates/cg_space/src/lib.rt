@@ -11,9 +11,12 @@
 #![tactic(auto)]
 
 mod checked;
+mod coverage;
+mod graph;
 mod lookup;
 mod map;
 mod node_ranges;
+mod region;
 mod row;
 mod shared;
 
