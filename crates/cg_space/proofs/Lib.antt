@@ -3,3 +3,4 @@ pub mod Marking
 pub mod Joining
 pub mod Shapes
 pub mod Covering
+pub mod Sound

@@ -16,6 +16,7 @@ mod graph;
 mod lookup;
 mod map;
 mod node_ranges;
+mod nodes;
 mod region;
 mod row;
 mod shared;
