@@ -2,3 +2,4 @@ pub mod Firsts
 pub mod Loops
 pub mod Members
 pub mod Membership
+pub mod Told
