@@ -3,3 +3,4 @@ pub mod Loops
 pub mod Members
 pub mod Membership
 pub mod Stages
+pub mod Told

@@ -3,3 +3,4 @@ pub mod Found
 pub mod Refusal
 pub mod Violations
 pub mod Rules
+pub mod Told

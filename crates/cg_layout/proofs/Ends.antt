@@ -13,9 +13,9 @@ use Rattle.cg_desc.specs.Offsets.{Ends, IsSpan}
 use Rattle.cg_desc.specs.Valid.{IsValidItem}
 use Rattle.cg_finding.specs.Finding.{Finding, finding}
 use Rattle.cg_layout.specs.Inner.Extents.{Extends}
-use Rattle.cg_layout.specs.Inner.Told.{TellsFirst}
+use Rattle.cg_finding.specs.Told.{TellsFirst}
 use Rattle.cg_layout.specs.Violations.{BreaksOffsets, IsSkipBack, end_limit, own_name, place_of}
-use Rattle.cg_layout.proofs.Told.{tells_as, tells_nothing, tells_one}
+use Rattle.cg_finding.proofs.Told.{tells_as, tells_nothing, tells_one}
 
 -- of two powers of two that are the least for n, the one is not below the other
 not_below : (n j k : ℕ) → n ≤ 2 ^ j → 2 ^ k / 2 < max 1 n → j < k → ⊥

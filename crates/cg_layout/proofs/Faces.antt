@@ -9,10 +9,10 @@ use Rattle.cg_desc.specs.Items.{items_of_block, items_of_faces}
 use Rattle.cg_finding.specs.Finding.{Among, Finding, earlier}
 use Rattle.cg_finding.proofs.Firsts.{None-earlier, earlier-None, earlier_assoc}
 use Rattle.cg_layout.specs.Inner.Faces.{OneBreaks}
-use Rattle.cg_layout.specs.Inner.Told.{TellsFirst}
+use Rattle.cg_finding.specs.Told.{TellsFirst}
 use Rattle.cg_layout.specs.Violations.{BreaksIn, Violates}
 use Rattle.cg_layout.proofs.Lists.{among, contains}
-use Rattle.cg_layout.proofs.Told.{none_broken, tells_as, tells_either, tells_nothing}
+use Rattle.cg_finding.proofs.Told.{none_broken, tells_as, tells_either, tells_nothing}
 
 abbrev Face : Type 0
 Face = FaceDesc × FaceItems

@@ -8,11 +8,11 @@ use Rattle.cg_desc.specs.declared.block.Item.TheVariants.{Reg, Window, SkipTo, R
 use Rattle.cg_finding.specs.Finding.{Among, Finding, In, earlier, finding, first_of}
 use Rattle.cg_finding.proofs.Members.{flat_map_has, in_flat_map, in_unless, unless_has}
 use Rattle.cg_layout.specs.Inner.Gates.{faults_of_gate, faults_of_regwen, gate_faults, has_row}
-use Rattle.cg_layout.specs.Inner.Told.{TellsFirst}
+use Rattle.cg_finding.specs.Told.{TellsFirst}
 use Rattle.cg_desc.specs.Gates.{is_gate, register_among}
 use Rattle.cg_layout.specs.Violations.{BreaksIn, BreaksOffsets, HasNoRow, is_row, name_or_empty}
 use Rattle.cg_layout.proofs.Lists.{among, contains}
-use Rattle.cg_layout.proofs.Told.{tells_as, tells_either, tells_list, tells_nothing, tells_one}
+use Rattle.cg_finding.proofs.Told.{tells_as, tells_either, tells_list, tells_nothing, tells_one}
 
 -- ---- rows
 

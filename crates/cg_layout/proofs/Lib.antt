@@ -1,5 +1,4 @@
 mod Lists
-mod Told
 mod Ends
 mod Gating
 mod Faces

@@ -1,4 +1,3 @@
-pub mod Told
 pub mod Extents
 pub mod Gates
 pub mod Faces

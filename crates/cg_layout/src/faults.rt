@@ -5,7 +5,7 @@ ghost use Rattle.cg_desc.specs.Valid.{IsValidItem};
 ghost use Rattle.cg_finding.specs.Finding.{finding};
 ghost use Rattle.cg_finding.specs.Found.{sees};
 ghost use Rattle.cg_layout.specs.Inner.Faces.{OneBreaks};
-ghost use Rattle.cg_layout.specs.Inner.Told.{TellsFirst};
+ghost use Rattle.cg_finding.specs.Told.{TellsFirst};
 ghost use Rattle.cg_layout.specs.Violations.{BreaksIn, BreaksOffsets, HasNoRow, name_or_empty};
 ghost use Rattle.cg_svspec.specs.Printable.{AllOf};
 

@@ -6,7 +6,7 @@ use Rattle.cg_layout.specs.Lays.{IsLaidBlock}
 use Rattle.cg_layout.specs.Violations.{Violates}
 use Rattle.cg_layout.proofs.Faces.{all_items, none_violates, some_violates, tells_block}
 use Rattle.cg_layout.proofs.Placing.{AreValid}
-use Rattle.cg_layout.proofs.Told.{refuses_first}
+use Rattle.cg_finding.proofs.Told.{refuses_first}
 use Rattle.cg_layout.proofs.Whole.{laid_faces}
 use Rattle.cg_layout.proofs.layout.lay.Goals as goal
 use Rattle.cg_layout.proofs.layout.lay.Goals.{In_default, In_ok-laid}

@@ -1,4 +1,4 @@
--- A check's answer, by what it means to be broken.
+-- What a check tells, by what it means to be broken.
 use Rattle.std.specs.Prelude.{◌≡◌, List, Option}
 use Rattle.cg_finding.specs.Finding.{Finding, In, first_of}
 

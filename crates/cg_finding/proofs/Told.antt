@@ -1,5 +1,6 @@
 -- What checks tell, alone and together.
-use Rattle.std.proofs.Common.{◌≡◌, ℕ, List, [], ◌∷◌, ◌++◌, ◌⊎◌, inl, inr, Option, Some, None, refl, sym}
+use Rattle.std.proofs.Common.{◌≡◌, ◌+◌, ◌<◌, ◌≤◌, ℕ, List, [], ◌∷◌, ◌++◌, ◌⊎◌, inl, inr, Option, Some, None, refl, sym, subst, arith}
+use Rattle.std.proofs.lemmas.Bool.{cases_lt}
 use Rattle.cg_desc.specs.declared.fault.DescFault.{DescFault}
 use Rattle.cg_desc.specs.declared.fault.DescFault.TheVariants.{Fault, Memory}
 use Rattle.cg_finding.specs.Finding.{Finding, In, earlier, first_of}
@@ -7,7 +8,7 @@ use Rattle.cg_finding.specs.Refusal.{Refuses}
 use Rattle.cg_finding.specs.Violations.{RefusesFirst}
 use Rattle.cg_finding.proofs.Firsts.{first_of-append, first_of-empty, first_of-one, none_is_empty}
 use Rattle.cg_finding.proofs.Members.{in_either, in_left, in_right}
-use Rattle.cg_layout.specs.Inner.Told.{TellsFirst}
+use Rattle.cg_finding.specs.Told.{TellsFirst}
 
 -- nothing is broken
 pub tells_nothing : {B : Finding → Type 0} → ((f : Finding) → ¬ B f) → TellsFirst None B
@@ -73,3 +74,33 @@ refuses_first (Fault fault) file f t refuses = (
   },
 )
 refuses_first Memory file f t refuses = tt
+
+-- ---- one item after the other
+
+-- one of the first n breaks it
+abbrev pub BrokenBelow : (ℕ → Finding → Type 0) → ℕ → Finding → Type 0
+BrokenBelow B n f = (i : ℕ) × (i < n) × B i f
+
+-- nothing is looked at so far
+pub tells_start : {B : ℕ → Finding → Type 0} → TellsFirst None (BrokenBelow B 0)
+tells_start = tells_nothing (λ f broken. absurd (omega (arith, broken.1)))
+
+-- one more item
+pub tells_next : {B : ℕ → Finding → Type 0} {told now new : Option Finding} (n : ℕ) → TellsFirst told (BrokenBelow B n) → TellsFirst now (B n)
+    → new ≡ earlier told now → TellsFirst new (BrokenBelow B (n + 1))
+tells_next {B} n t u is = rw is (tells_as (tells_either t u) more back) where
+  more : (f : Finding) → BrokenBelow B n f ⊎ B n f → BrokenBelow B (n + 1) f
+  more f (inl (i, below, broken)) = (i, omega arith, broken)
+  more f (inr broken) = (n, omega arith, broken)
+
+  at : (f : Finding) (i : ℕ) → B i f → (i < n) ⊎ (n ≤ i) → i < n + 1 → BrokenBelow B n f ⊎ B n f
+  at f i broken (inl below) under = inl (i, below, broken)
+  at f i broken (inr above) under = let e : i ≡ n = omega arith in inr (subst (λ k. B k f) e broken)
+
+  back : (f : Finding) → BrokenBelow B (n + 1) f → BrokenBelow B n f ⊎ B n f
+  back f (i, below, broken) = at f i broken (cases_lt i n) below
+
+-- all of them
+pub tells_all : {B : ℕ → Finding → Type 0} {C : Finding → Type 0} {told : Option Finding} (n : ℕ) → TellsFirst told (BrokenBelow B n)
+    → ((f : Finding) (i : ℕ) → B i f → C f) → ((f : Finding) → C f → BrokenBelow B n f) → TellsFirst told C
+tells_all n t sound complete = tells_as t (λ f broken. sound f broken.0 broken.2) complete

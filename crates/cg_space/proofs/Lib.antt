@@ -1,0 +1,6 @@
+pub mod Looking
+pub mod Marking
+pub mod Joining
+pub mod Shapes
+pub mod Covering
+pub mod Sound

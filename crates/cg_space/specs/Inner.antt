@@ -1,0 +1,6 @@
+pub mod Graph
+pub mod Marks
+pub mod Regions
+pub mod Coverages
+pub mod Sound
+pub mod Tables

@@ -1,0 +1,45 @@
+-- Tables of what is kept of the ranges of a crossbar's nodes.
+use Rattle.std.specs.Prelude.{ℕ, ◌≡◌, ◌<◌, ◌≤◌, ◌⊎◌, ◌↔◌, false, true, List, [], length, get_or, slice_get, Some}
+use Rattle.cg_desc.specs.Ends.{CrossbarIs}
+use Rattle.cg_desc.specs.Merged.{design_of, NodeAt}
+use Rattle.cg_desc.specs.Reach.{HasRanges, HaveRanges, Nests}
+use Rattle.cg_desc.specs.declared.crossbar.NodeDesc.{NodeDesc}
+use Rattle.cg_desc.specs.declared.crossbar.Range.{Range}
+use Rattle.cg_desc.specs.declared.crossbar.XbarDesc.{XbarDesc}
+use Rattle.cg_desc.specs.declared.top.MergedTop.{MergedTop}
+use Rattle.cg_space.specs.Inner.Coverages.{IsCoverage}
+use Rattle.cg_space.specs.Inner.Graph.{IsLink}
+use Rattle.cg_space.specs.declared.coverage.Coverage.{Coverage}
+
+-- which crossbars stand in which as devices
+pub record AreLinks (m : MergedTop) (links : List (List ℕ)) : Type 0 where
+  pub count : length links ≡ length m.xbars
+  pub each : (x y : ℕ) → IsLink links x y ↔ Nests m x y
+
+-- device n of crossbar x has ranges of which this is kept
+abbrev pub IsKept : MergedTop → ℕ → ℕ → Coverage → Type 0
+IsKept m x n c = (rs : List Range) × HasRanges m x n rs × IsCoverage rs c
+
+-- these devices of crossbar x have ranges of which this is kept
+abbrev pub AreKept : MergedTop → ℕ → List ℕ → Coverage → Type 0
+AreKept m x ds c = (rs : List Range) × HaveRanges m x ds rs × IsCoverage rs c
+
+-- what is kept of each node of crossbar x; of a host nothing
+pub record IsTable (m : MergedTop) (x : ℕ) (table : List Coverage) : Type 0 where
+  pub count : (xbar : XbarDesc) → CrossbarIs (design_of m) x xbar → length table ≡ length xbar.nodes
+  pub devices : (n : ℕ) (node : NodeDesc) (c : Coverage) → NodeAt m x n node → node.host ≡ false → slice_get table n ≡ Some c → IsKept m x n c
+  pub hosts : (n : ℕ) (node : NodeDesc) (c : Coverage) → NodeAt m x n node → node.host ≡ true → slice_get table n ≡ Some c → c.ranges ≡ []
+
+-- the ranks fall from a crossbar to those that stand in it as devices
+abbrev pub RanksFall : MergedTop → List ℕ → Type 0
+RanksFall m ranks = (x y : ℕ) → Nests m x y → get_or ranks y 0 < get_or ranks x 0
+
+-- crossbars of a rank below r, and of rank r those below this number, have their tables
+abbrev pub RightBelow : MergedTop → List ℕ → List (List Coverage) → ℕ → ℕ → Type 0
+RightBelow m ranks tables r number =
+    (x : ℕ) → x < length m.xbars → (get_or ranks x 0 < r) ⊎ ((get_or ranks x 0 ≡ r) × (x < number)) → IsTable m x (get_or tables x [])
+
+-- each crossbar has its table
+pub record AreTables (m : MergedTop) (tables : List (List Coverage)) : Type 0 where
+  pub count : length tables ≡ length m.xbars
+  pub each : (x : ℕ) → x < length m.xbars → IsTable m x (get_or tables x [])

@@ -1,0 +1,5 @@
+pub mod Shared
+pub mod Violations
+pub mod Answers
+pub mod Rows
+pub mod Inner

@@ -1,0 +1,44 @@
+//! The nodes of a merged top, and what they stand for.
+
+ghost use Rattle.std.specs.Prelude.{◌≡◌, ◌↔◌, ◌<◌, ◌≤◌, ◌^◌, ◌∷◌, [], ℕ, Some, IfOk, length};
+ghost use Rattle.cg_desc.specs.Merged.{NodeAt, EndAt};
+ghost use Rattle.cg_desc.specs.Reach.{IsInnerHost};
+ghost use Rattle.cg_desc.specs.declared.crossbar.NodeDesc.{NodeDesc as ANode};
+ghost use Rattle.cg_space.specs.Inner.Sound.{HasNode, IsNestedAt, IsSound};
+ghost use Rattle.cg_space.specs.Inner.Tables.{AreLinks};
+
+use cg_base::{List, Memory};
+use cg_desc::{MergedTop, NodeDesc, NodeEnd};
+use std::alloc::Global;
+
+/// Node `node` of crossbar `xbar`.
+pub fn node_at(top: &MergedTop, xbar: usize, node: usize) -> &NodeDesc
+    requires { HasNode top.now xbar node }
+    ensures { NodeAt top.now xbar node result.now }
+{
+    &top.xbars.as_slice()[xbar].nodes.as_slice()[node]
+}
+
+/// What it stands for.
+pub fn end_at(top: &MergedTop, xbar: usize, node: usize) -> NodeEnd
+    requires sound { IsSound top.now }
+    requires there { HasNode top.now xbar node }
+    ensures { EndAt top.now xbar node result }
+{
+    top.ends.as_slice()[xbar].ends.as_slice()[node]
+}
+
+/// The crossbar that it stands for, where it is a device that stands for one.
+pub fn nested_in(top: &MergedTop, xbar: usize, node: usize) -> Option<u32>
+    requires sound { IsSound top.now }
+    requires there { HasNode top.now xbar node }
+    ensures { (y : ℕ) → (result ≡ Some y) ↔ IsNestedAt top.now xbar node y }
+{
+    if node_at(top, xbar, node).host {
+        return None;
+    }
+    match end_at(top, xbar, node) {
+        NodeEnd::Xbar { xbar } => Some(xbar),
+        NodeEnd::Face { .. } | NodeEnd::Host { .. } | NodeEnd::Outside => None,
+    }
+}
