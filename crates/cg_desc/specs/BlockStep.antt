@@ -168,10 +168,8 @@ equals_staged a staged r = list_all (λ f. same_bits (bits_of_field f a.data_in)
 
 -- a write of the register that takes effect and, where the register is shadowed, commits
 abbrev pub writes_fields : LaidFace → Target → Access → State → ℕ → RegDesc → Bool
-writes_fields face target a state i r = by (is_shadowed r) (takes_write face target a state.values i r) where
-  by : Bool → Bool → Bool
-  by false we = we
-  by true we = commits (state.phase i) we (equals_staged a state.staged r)
+writes_fields face target a state i r =
+    cond (is_shadowed r) (commits (state.phase i) (takes_write face target a state.values i r) (equals_staged a state.staged r)) (takes_write face target a state.values i r)
 
 -- ---- what hardware sees
 
