@@ -2,8 +2,8 @@
 use Rattle.std.proofs.Common.{◌≡◌, ℕ, Bool, true, false, not, cond, ◌&&◌, List, [], ◌∷◌, ◌++◌, length, refl, ap, ◌∙◌}
 use Rattle.std.proofs.lemmas.Bool.{not-true}
 use Rattle.cg_svspec.specs.Bits.{Bits, chosen}
-use Rattle.cg_svspec.specs.Tree.{Expression, net, pick, Entry, assign}
-use Rattle.cg_svspec.specs.Value.{Values, eval, Holds, AllHold}
+use Rattle.cg_svspec.specs.Tree.{Expression, net, pick, assign}
+use Rattle.cg_svspec.specs.Value.{Values, eval, AllHold}
 use Rattle.cg_desc.specs.AccessTable.{hardware_writes, after_hardware, next_value}
 use Rattle.cg_desc.specs.Target.{Target}
 use Rattle.cg_desc.specs.BlockStep.{Access, writes_fields, takes_read, bits_of_field, shows_q, shows_qe, shows_re, Where, FieldSteps, EachField}
@@ -77,7 +77,7 @@ held v state next inputs r f true inside by wires =
     }
 
 -- a register that is not external has its next values
-updates_hold : (v state next : Values) (i : ℕ) (r : RegDesc) (f : FieldDesc) (external : Bool) → AllHold v state next (cond external [] (field_updates i r f)) → external ≡ false
+pub updates_hold : (v state next : Values) (i : ℕ) (r : RegDesc) (f : FieldDesc) (external : Bool) → AllHold v state next (cond external [] (field_updates i r f)) → external ≡ false
     → AllHold v state next (field_updates i r f)
 updates_hold v state next i r f true holds inside = cc
 updates_hold v state next i r f false holds inside = holds
