@@ -1,4 +1,4 @@
-use crate::{next, reads};
+use crate::{ShadowStep, next, reads, shadow};
 use cg_desc::SwAccess;
 use std::test::Fail;
 
@@ -47,5 +47,38 @@ fn a_field_of_all_bits_is_written(rt: HostRuntime) -> Result<(), Fail> {
         next(SwAccess::Ro, 7, true, false, 0xffff_ffff, false, 9, 32),
         7
     );
+    Ok(())
+}
+
+#[test]
+fn a_shadowed_register_takes_two_equal_writes(rt: HostRuntime) -> Result<(), Fail> {
+    let staged = ShadowStep {
+        phase: true,
+        commits: false,
+        failed: false,
+    };
+    let committed = ShadowStep {
+        phase: false,
+        commits: true,
+        failed: false,
+    };
+    let failed = ShadowStep {
+        phase: false,
+        commits: false,
+        failed: true,
+    };
+    let cleared = ShadowStep {
+        phase: false,
+        commits: false,
+        failed: false,
+    };
+    // The first write stages, whether or not it is what was staged before.
+    assert_eq!(rt; shadow(false, true, false, false), staged);
+    assert_eq!(rt; shadow(false, true, false, true), staged);
+    assert_eq!(rt; shadow(true, true, false, true), committed);
+    assert_eq!(rt; shadow(true, true, false, false), failed);
+    // A read between two writes makes the second one the first again.
+    assert_eq!(rt; shadow(true, false, true, true), cleared);
+    assert_eq!(rt; shadow(true, false, false, true), staged);
     Ok(())
 }

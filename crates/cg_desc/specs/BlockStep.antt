@@ -1,9 +1,11 @@
 -- The step of a register block in one clock. It takes a target and the clock's wires, decodes no address, and knows no wire of
 -- the text that is written (OpenTitan Register Tool; TL-UL register adapter, its register side).
 use Rattle.std.specs.Prelude.{◌≡◌, ℕ, suc, ◌+◌, ◌-◌, ◌/◌, max, eqb, Bool, true, false, not, cond, ◌&&◌, ◌||◌, List, [], ◌∷◌, ◌++◌, take, drop, Option, Some, None}
-use Rattle.cg_svspec.specs.Bits.{Bits, bits, any_bit, all_bits, zeros, ones}
+use Rattle.std.specs.List.{list_all}
+use Rattle.cg_svspec.specs.Bits.{Bits, bits, any_bit, all_bits, same_bits, zeros, ones}
 use Rattle.cg_desc.specs.AccessTable.{is_readable, is_writable, hardware_writes, hardware_sees, after_hardware, next_value}
 use Rattle.cg_desc.specs.Gates.{register_named}
+use Rattle.cg_desc.specs.Shadow.{is_shadowed, stages, commits, fails, next_phase}
 use Rattle.cg_desc.specs.Target.{Target, register, word, error}
 use Rattle.cg_desc.specs.declared.block.SwAccess.{SwAccess}
 use Rattle.cg_desc.specs.declared.block.SwAccess.TheVariants.{Ro, Wo}
@@ -43,6 +45,13 @@ is_write write = true
 -- a value for each field of each register
 abbrev pub Fields : Type 0
 Fields = RegDesc → FieldDesc → Bits
+
+-- What an interface keeps from clock to clock: the stored fields' values and, of shadowed registers, the staged value of each field,
+-- and the phase of the register in the row of each number.
+pub record State : Type 0 where
+  pub values : Fields
+  pub staged : Fields
+  pub phase : ℕ → Bool
 
 -- what hardware brings: a value and a strobe for each field, and the read data of each window
 pub record Hardware : Type 0 where
@@ -153,6 +162,15 @@ takes_read face target a i = is_read a.kind && (is_accepted face target a && is_
 abbrev pub bits_of_field : FieldDesc → Bits → Bits
 bits_of_field f data_in = take (suc f.msb - f.lsb) (drop f.lsb data_in)
 
+-- every field's written value equals its staged one
+abbrev pub equals_staged : Access → Fields → RegDesc → Bool
+equals_staged a staged r = list_all (λ f. same_bits (bits_of_field f a.data_in) (staged r f)) r.fields
+
+-- a write of the register that takes effect and, where the register is shadowed, commits
+abbrev pub writes_fields : LaidFace → Target → Access → State → ℕ → RegDesc → Bool
+writes_fields face target a state i r =
+    cond (is_shadowed r) (commits (state.phase i) (takes_write face target a state.values i r) (equals_staged a state.staged r)) (takes_write face target a state.values i r)
+
 -- ---- what hardware sees
 
 -- the views that a field has; a field of an external register has no storage
@@ -177,14 +195,15 @@ brings_de r f = not r.hwext && hardware_writes f.hw
 
 -- ---- the step
 
--- what comes of a clock: the response, the stored fields after it, and what hardware sees
+-- what comes of a clock: the response, the state after it, and what hardware sees
 pub record Outcome : Type 0 where
   pub has_error : Bool
   pub data_out : Bits
-  pub next : Fields
+  pub next : State
   pub q : Fields
   pub qe : RegDesc → FieldDesc → Bool
   pub re : RegDesc → FieldDesc → Bool
+  pub update_error : RegDesc → Bool
   pub window_we : WindowDesc → Bool
   pub window_re : WindowDesc → Bool
   pub window_address : WindowDesc → Bits
@@ -196,12 +215,12 @@ abbrev pub Where : Bool → Type 0 → Type 0
 Where b P = cond b P (Unit {0})
 
 -- a stored field takes its next value, where hardware's strobe counts only for a field that hardware writes
-pub record FieldSteps (face : LaidFace) (target : Target) (a : Access) (fields : Fields) (hardware : Hardware) (out : Outcome) (i : ℕ) (r : RegDesc) (f : FieldDesc) : Type 0 where
+pub record FieldSteps (face : LaidFace) (target : Target) (a : Access) (state : State) (hardware : Hardware) (out : Outcome) (i : ℕ) (r : RegDesc) (f : FieldDesc) : Type 0 where
   pub stored : Where (not r.hwext)
-      (out.next r f ≡ next_value f.sw (takes_write face target a fields i r) (takes_read face target a i) (bits_of_field f a.data_in)
-      (after_hardware (hardware_writes f.hw && hardware.de r f) (hardware.d r f) (fields r f)))
-  pub value_seen : Where (shows_q r f) (out.q r f ≡ cond r.hwext (bits_of_field f a.data_in) (fields r f))
-  pub write_seen : Where (shows_qe r f) (out.qe r f ≡ takes_write face target a fields i r)
+      (out.next.values r f ≡ next_value f.sw (writes_fields face target a state i r) (takes_read face target a i) (bits_of_field f a.data_in)
+      (after_hardware (hardware_writes f.hw && hardware.de r f) (hardware.d r f) (state.values r f)))
+  pub value_seen : Where (shows_q r f) (out.q r f ≡ cond r.hwext (bits_of_field f a.data_in) (state.values r f))
+  pub write_seen : Where (shows_qe r f) (out.qe r f ≡ writes_fields face target a state i r)
   pub read_seen : Where (shows_re r f) (out.re r f ≡ takes_read face target a i)
 
 -- a window shows strobes for accepted accesses alone, and address, data and byte strobes as they are
@@ -216,11 +235,22 @@ abbrev pub EachField : (FieldDesc → Type 0) → List FieldDesc → Type 0
 EachField P [] = Unit {0}
 EachField P (f ∷ fs) = P f × EachField P fs
 
-abbrev pub ItemSteps : LaidFace → Target → Access → Fields → Hardware → Outcome → ℕ → Item → Type 0
-ItemSteps face target a fields hardware out i (Reg r) = EachField (FieldSteps face target a fields hardware out i r) r.fields
-ItemSteps face target a fields hardware out i (Window w) = WindowSteps face target a out i w
-ItemSteps face target a fields hardware out i (SkipTo to at) = Unit {0}
-ItemSteps face target a fields hardware out i (Reserved words at) = Unit {0}
+-- A shadowed register stages what a first write that takes effect brings, and its staged values otherwise stay. Its phase tells
+-- whether a first write was made. The update error is 1 exactly where a second one takes effect and differs.
+pub record ShadowSteps (face : LaidFace) (target : Target) (a : Access) (state : State) (out : Outcome) (i : ℕ) (r : RegDesc) : Type 0 where
+  pub staged : EachField (λ f. out.next.staged r f ≡ cond (stages (state.phase i) (takes_write face target a state.values i r)) (bits_of_field f a.data_in) (state.staged r f)) r.fields
+  pub phase : out.next.phase i ≡ next_phase (state.phase i) (takes_write face target a state.values i r) (takes_read face target a i)
+  pub update_error : out.update_error r ≡ fails (state.phase i) (takes_write face target a state.values i r) (equals_staged a state.staged r)
+
+pub record RegisterSteps (face : LaidFace) (target : Target) (a : Access) (state : State) (hardware : Hardware) (out : Outcome) (i : ℕ) (r : RegDesc) : Type 0 where
+  pub fields : EachField (FieldSteps face target a state hardware out i r) r.fields
+  pub shadow : Where (is_shadowed r) (ShadowSteps face target a state out i r)
+
+abbrev pub ItemSteps : LaidFace → Target → Access → State → Hardware → Outcome → ℕ → Item → Type 0
+ItemSteps face target a state hardware out i (Reg r) = RegisterSteps face target a state hardware out i r
+ItemSteps face target a state hardware out i (Window w) = WindowSteps face target a out i w
+ItemSteps face target a state hardware out i (SkipTo to at) = Unit {0}
+ItemSteps face target a state hardware out i (Reserved words at) = Unit {0}
 
 -- each row with its number, from this number on
 abbrev pub EachRow : (ℕ → Item → Type 0) → ℕ → List LaidRow → Type 0
@@ -229,8 +259,8 @@ EachRow P i (row ∷ rows) = P i row.item × EachRow P (i + 1) rows
 
 -- The step of an interface at a target. After an error the data are all ones, after an accepted read they are the row's word, and
 -- otherwise nothing is said of them.
-pub record BlockStep (face : LaidFace) (target : Target) (a : Access) (fields : Fields) (hardware : Hardware) (out : Outcome) : Type 0 where
+pub record BlockStep (face : LaidFace) (target : Target) (a : Access) (state : State) (hardware : Hardware) (out : Outcome) : Type 0 where
   pub response : out.has_error ≡ is_error face target a
   pub data_of_error : Where (is_error face target a) (out.data_out ≡ ones 32)
-  pub data_of_read : Where (is_read a.kind && is_accepted face target a) (out.data_out ≡ word_at face fields hardware target)
-  pub each : EachRow (ItemSteps face target a fields hardware out) 0 face.rows
+  pub data_of_read : Where (is_read a.kind && is_accepted face target a) (out.data_out ≡ word_at face state.values hardware target)
+  pub each : EachRow (ItemSteps face target a state hardware out) 0 face.rows

@@ -2,6 +2,7 @@ pub mod AccessTable
 pub mod Target
 pub mod Address
 pub mod Gates
+pub mod Shadow
 pub mod BlockStep
 pub mod BlockRun
 pub mod Laid

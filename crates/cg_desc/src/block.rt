@@ -45,8 +45,9 @@ pub struct FieldDesc {
 
 /// A register, its fields in the order of their lowest bits.
 ///
-/// A register with `hwext` stores nothing. `regwen` names the register whose field, while it is 0, keeps
-/// writes from having an effect.
+/// A register with `hwext` stores nothing. One that is `shadowed` takes its values by two equal writes, and shows a second
+/// write that differs (OpenTitan Register Tool, shadowed registers). `regwen` names the register whose field, while it is 0,
+/// keeps writes from having an effect.
 #[derive(Drop)]
 pub struct RegDesc {
     pub name: Text,
@@ -56,6 +57,7 @@ pub struct RegDesc {
     pub hwext: bool,
     pub hwqe: bool,
     pub hwre: bool,
+    pub shadowed: bool,
     pub at: At,
 }
 

@@ -2,23 +2,23 @@
 use Rattle.std.proofs.Common.{◌≡◌, ℕ, Bool, true, false, not, cond, ◌&&◌, List, [], ◌∷◌, ◌++◌, length, refl, ap, ◌∙◌}
 use Rattle.std.proofs.lemmas.Bool.{not-true}
 use Rattle.cg_svspec.specs.Bits.{Bits, chosen}
-use Rattle.cg_svspec.specs.Tree.{Expression, net, pick, Entry, assign}
-use Rattle.cg_svspec.specs.Value.{Values, eval, Holds, AllHold}
+use Rattle.cg_svspec.specs.Tree.{Expression, net, pick, assign}
+use Rattle.cg_svspec.specs.Value.{Values, eval, AllHold}
 use Rattle.cg_desc.specs.AccessTable.{hardware_writes, after_hardware, next_value}
 use Rattle.cg_desc.specs.Target.{Target}
-use Rattle.cg_desc.specs.BlockStep.{Access, takes_write, takes_read, bits_of_field, shows_q, shows_qe, shows_re, Where, FieldSteps, EachField}
+use Rattle.cg_desc.specs.BlockStep.{Access, writes_fields, takes_read, bits_of_field, shows_q, shows_qe, shows_re, Where, FieldSteps, EachField}
 use Rattle.cg_desc.specs.declared.block.SwAccess.{SwAccess}
 use Rattle.cg_desc.specs.declared.block.SwAccess.TheVariants.{Ro, Rc, Rw, R0w1c, Rw1s, Rw1c, Rw0c, Wo, Nothing}
 use Rattle.cg_desc.specs.declared.block.FieldDesc.{FieldDesc}
 use Rattle.cg_desc.specs.declared.block.RegDesc.{RegDesc}
 use Rattle.cg_desc.specs.declared.block.LaidFace.{LaidFace}
-use Rattle.cg_regspec.specs.NetNames.{reg_wdata, we, re, state_net, hold_net, q_net, qe_net, re_net, d_net, de_net}
-use Rattle.cg_regspec.specs.RegisterModule.{width_of, hardware_sets, has_q, has_qe, has_re, has_d, written_bits, next_of, entry_if, field_views, field_updates, field_entries, fields_entries}
-use Rattle.cg_regspec.specs.Meaning.{bit_of, fields_in, hardware_in, outcome_in}
+use Rattle.cg_regspec.specs.NetNames.{reg_wdata, re, state_net, hold_net, q_net, qe_net, re_net, d_net, de_net}
+use Rattle.cg_regspec.specs.RegisterModule.{width_of, hardware_sets, has_q, has_qe, has_re, has_d, written_bits, next_of, entry_if, write_net, field_views, field_updates, field_entries, fields_entries}
+use Rattle.cg_regspec.specs.Meaning.{bit_of, state_in, hardware_in, outcome_in}
 use Rattle.cg_svspec.proofs.BitLists.{bits-zero, bits-ones}
 use Rattle.cg_svspec.proofs.Parts.{hold_front, hold_back}
 use Rattle.cg_regspec.proofs.Tables.{sets_is, has_q_is, has_qe_is, has_re_is}
-use Rattle.cg_regspec.proofs.Wires.{CarryAccess, FieldWires}
+use Rattle.cg_regspec.proofs.Wires.{CarryAccess, FieldWires, entry_holds}
 use Rattle.cg_regspec.proofs.Items.{slice_is}
 
 -- a fact where a test holds, from a proof of it there
@@ -27,25 +27,26 @@ where_true true P there = there refl
 where_true false P there = tt
 
 -- the field's bits of the write data
-written_is : (v : Values) (a : Access) (f : FieldDesc) → CarryAccess v a → eval v (written_bits f) ≡ bits_of_field f a.data_in
+pub written_is : (v : Values) (a : Access) (f : FieldDesc) → CarryAccess v a → eval v (written_bits f) ≡ bits_of_field f a.data_in
 written_is v a f carry =
     let wide : length (v reg_wdata) ≡ 32 = rw carry.data_in carry.data_width in
     slice_is v reg_wdata 32 f.msb f.lsb wide ∙ rw carry.data_in refl
 
 -- ---- the next value
 
--- the value of a row's expression for each kind is the one of the access table
-next_is : (v : Values) (kind : SwAccess) (i : ℕ) (written : Expression) (hold : List ℕ) (w : ℕ) (takes_we takes_re : Bool) (data_in h : Bits) → v (we i) ≡ takes_we ∷ []
-    → v (re i) ≡ takes_re ∷ [] → eval v written ≡ data_in → v hold ≡ h → length h ≡ w → eval v (next_of kind i written (net hold) w) ≡ next_value kind takes_we takes_re data_in h
-next_is v Rw i written hold w takes_we takes_re data_in h wes res is holds wide = rw (wes, is, holds) refl
-next_is v Wo i written hold w takes_we takes_re data_in h wes res is holds wide = rw (wes, is, holds) refl
-next_is v Ro i written hold w takes_we takes_re data_in h wes res is holds wide = holds
-next_is v Nothing i written hold w takes_we takes_re data_in h wes res is holds wide = holds
-next_is v Rw1s i written hold w takes_we takes_re data_in h wes res is holds wide = rw (wes, is, holds, bits-zero w, wide) refl
-next_is v Rw1c i written hold w takes_we takes_re data_in h wes res is holds wide = rw (wes, is, holds, bits-ones w, wide) refl
-next_is v R0w1c i written hold w takes_we takes_re data_in h wes res is holds wide = rw (wes, is, holds, bits-ones w, wide) refl
-next_is v Rw0c i written hold w takes_we takes_re data_in h wes res is holds wide = rw (wes, is, holds, bits-ones w, wide) refl
-next_is v Rc i written hold w takes_we takes_re data_in h wes res is holds wide = rw (res, bits-zero w, holds, wide) refl
+-- the value of the expression for each kind is the one of the access table
+next_is : (v : Values) (kind : SwAccess) (writes reads : List ℕ) (written : Expression) (hold : List ℕ) (w : ℕ) (takes_we takes_re : Bool) (data_in h : Bits) → v writes ≡ takes_we ∷ []
+    → v reads ≡ takes_re ∷ [] → eval v written ≡ data_in → v hold ≡ h → length h ≡ w
+    → eval v (next_of kind writes reads written (net hold) w) ≡ next_value kind takes_we takes_re data_in h
+next_is v Rw writes reads written hold w takes_we takes_re data_in h wes res is holds wide = rw (wes, is, holds) refl
+next_is v Wo writes reads written hold w takes_we takes_re data_in h wes res is holds wide = rw (wes, is, holds) refl
+next_is v Ro writes reads written hold w takes_we takes_re data_in h wes res is holds wide = holds
+next_is v Nothing writes reads written hold w takes_we takes_re data_in h wes res is holds wide = holds
+next_is v Rw1s writes reads written hold w takes_we takes_re data_in h wes res is holds wide = rw (wes, is, holds, bits-zero w, wide) refl
+next_is v Rw1c writes reads written hold w takes_we takes_re data_in h wes res is holds wide = rw (wes, is, holds, bits-ones w, wide) refl
+next_is v R0w1c writes reads written hold w takes_we takes_re data_in h wes res is holds wide = rw (wes, is, holds, bits-ones w, wide) refl
+next_is v Rw0c writes reads written hold w takes_we takes_re data_in h wes res is holds wide = rw (wes, is, holds, bits-ones w, wide) refl
+next_is v Rc writes reads written hold w takes_we takes_re data_in h wes res is holds wide = rw (res, bits-zero w, holds, wide) refl
 
 -- a choice by the first bit of a strobe
 chosen_by : (strobe d q : Bits) → chosen strobe d q ≡ cond (bit_of strobe) d q
@@ -76,28 +77,23 @@ held v state next inputs r f true inside by wires =
     }
 
 -- a register that is not external has its next values
-updates_hold : (v state next : Values) (i : ℕ) (r : RegDesc) (f : FieldDesc) (external : Bool) → AllHold v state next (cond external [] (field_updates i r f)) → external ≡ false
+pub updates_hold : (v state next : Values) (i : ℕ) (r : RegDesc) (f : FieldDesc) (external : Bool) → AllHold v state next (cond external [] (field_updates i r f)) → external ≡ false
     → AllHold v state next (field_updates i r f)
 updates_hold v state next i r f true holds inside = cc
 updates_hold v state next i r f false holds inside = holds
 
 -- a stored field takes the value of the access table
-next_stored : (v state next inputs : Values) (a : Access) (i : ℕ) (r : RegDesc) (f : FieldDesc) (takes_we takes_re : Bool) → CarryAccess v a → v (we i) ≡ takes_we ∷ [] → v (re i) ≡ takes_re ∷ []
+next_stored : (v state next inputs : Values) (a : Access) (i : ℕ) (r : RegDesc) (f : FieldDesc) (takes_we takes_re : Bool) → CarryAccess v a → v (write_net i r) ≡ takes_we ∷ [] → v (re i) ≡ takes_re ∷ []
     → FieldWires v state next inputs r f → r.hwext ≡ false → AllHold v state next (field_updates i r f)
     → next (state_net r f) ≡ next_value f.sw takes_we takes_re (bits_of_field f a.data_in)
     (after_hardware (hardware_writes f.hw && bit_of (inputs (de_net r f))) (inputs (d_net r f)) (state (state_net r f)))
 next_stored v state next inputs a i r f takes_we takes_re carry wes res wires inside holds =
     let after = held v state next inputs r f (hardware_sets f.hw) inside refl wires in
     wires.stored_next inside
-    ∙ (holds.1.0 ∙ next_is v f.sw i (written_bits f) (hold_net r f) (width_of f) takes_we takes_re (bits_of_field f a.data_in) _ wes res (written_is v a f carry) (holds.0 ∙ after.is) after.wide)
+    ∙ (holds.1.0 ∙ next_is v f.sw (write_net i r) (re i) (written_bits f) (hold_net r f) (width_of f) takes_we takes_re (bits_of_field f a.data_in) _ wes res (written_is v a f carry) (holds.0 ∙ after.is) after.wide)
     ∙ ap (λ b. next_value f.sw takes_we takes_re (bits_of_field f a.data_in) (after_hardware (b && bit_of (inputs (de_net r f))) (inputs (d_net r f)) (state (state_net r f)))) (sets_is f.hw)
 
 -- ---- what hardware sees
-
--- an entry that is there where the test holds
-entry_there : (v state next : Values) (b : Bool) (e : Entry) → AllHold v state next (entry_if b e) → b ≡ true → Holds v state next e
-entry_there v state next true e h is = h.0
-entry_there v state next false e h is = cc
 
 -- the value that hardware sees, by whether the register is external
 value_by : (v state next inputs : Values) (a : Access) (r : RegDesc) (f : FieldDesc) (external : Bool) → r.hwext ≡ external → CarryAccess v a → FieldWires v state next inputs r f
@@ -116,32 +112,32 @@ first_bit : (xs ys : Bits) (b : Bool) → xs ≡ ys → ys ≡ b ∷ [] → bit_
 first_bit xs ys b e g = rw (e, g) refl
 
 -- the views, from the assigns of the field's outputs
-views : (v state next inputs : Values) (a : Access) (i : ℕ) (r : RegDesc) (f : FieldDesc) (takes_we takes_re : Bool) → CarryAccess v a → v (we i) ≡ takes_we ∷ [] → v (re i) ≡ takes_re ∷ []
+views : (v state next inputs : Values) (a : Access) (i : ℕ) (r : RegDesc) (f : FieldDesc) (takes_we takes_re : Bool) → CarryAccess v a → v (write_net i r) ≡ takes_we ∷ [] → v (re i) ≡ takes_re ∷ []
     → FieldWires v state next inputs r f → AllHold v state next (field_views i r f) → Views v state a r f takes_we takes_re
 views v state next inputs a i r f takes_we takes_re carry wes res wires holds =
     let value_view = entry_if (has_q r f) (assign (q_net r f) (cond r.hwext (written_bits f) (net (state_net r f)))) in
-    let write_view = entry_if (has_qe r f) (assign (qe_net r f) (net (we i))) in
+    let write_view = entry_if (has_qe r f) (assign (qe_net r f) (net (write_net i r))) in
     let read_view = entry_if (has_re r f) (assign (re_net r f) (net (re i))) in
     let later = hold_back v state next value_view (write_view ++ read_view) holds in
     record {
-      value_seen = λ e. entry_there v state next (has_q r f) _ (hold_front v state next value_view (write_view ++ read_view) holds) e ∙ value_by v state next inputs a r f r.hwext refl carry wires;
-      write_seen = λ e. first_bit (v (qe_net r f)) (v (we i)) takes_we (entry_there v state next (has_qe r f) (assign (qe_net r f) (net (we i))) (hold_front v state next write_view read_view later) e) wes;
-      read_seen = λ e. first_bit (v (re_net r f)) (v (re i)) takes_re (entry_there v state next (has_re r f) (assign (re_net r f) (net (re i))) (hold_back v state next write_view read_view later) e) res;
+      value_seen = λ e. entry_holds v state next (has_q r f) _ (hold_front v state next value_view (write_view ++ read_view) holds) e ∙ value_by v state next inputs a r f r.hwext refl carry wires;
+      write_seen = λ e. first_bit (v (qe_net r f)) (v (write_net i r)) takes_we (entry_holds v state next (has_qe r f) (assign (qe_net r f) (net (write_net i r))) (hold_front v state next write_view read_view later) e) wes;
+      read_seen = λ e. first_bit (v (re_net r f)) (v (re i)) takes_re (entry_holds v state next (has_re r f) (assign (re_net r f) (net (re i))) (hold_back v state next write_view read_view later) e) res;
     }
 
 -- ---- the step of each field of a register in row i
 
 -- the step of one field
 field_steps : (v state next inputs : Values) (face : LaidFace) (target : Target) (a : Access) (i : ℕ) (r : RegDesc) (f : FieldDesc) → CarryAccess v a
-    → v (we i) ≡ takes_write face target a (fields_in state) i r ∷ [] → v (re i) ≡ takes_read face target a i ∷ [] → FieldWires v state next inputs r f
-    → AllHold v state next (field_entries i r f) → FieldSteps face target a (fields_in state) (hardware_in inputs) (outcome_in v next) i r f
+    → v (write_net i r) ≡ writes_fields face target a (state_in state) i r ∷ [] → v (re i) ≡ takes_read face target a i ∷ [] → FieldWires v state next inputs r f
+    → AllHold v state next (field_entries i r f) → FieldSteps face target a (state_in state) (hardware_in inputs) (outcome_in v next) i r f
 field_steps v state next inputs face target a i r f carry wes res wires holds =
     let updates = hold_front v state next (cond r.hwext [] (field_updates i r f)) (field_views i r f) holds in
-    let seen = views v state next inputs a i r f (takes_write face target a (fields_in state) i r) (takes_read face target a i) carry wes res wires
+    let seen = views v state next inputs a i r f (writes_fields face target a (state_in state) i r) (takes_read face target a i) carry wes res wires
     (hold_back v state next (cond r.hwext [] (field_updates i r f)) (field_views i r f) holds) in
     record {
       stored = where_true (not r.hwext) _
-          (λ e. next_stored v state next inputs a i r f (takes_write face target a (fields_in state) i r) (takes_read face target a i) carry wes res wires (not-true r.hwext e)
+          (λ e. next_stored v state next inputs a i r f (writes_fields face target a (state_in state) i r) (takes_read face target a i) carry wes res wires (not-true r.hwext e)
           (updates_hold v state next i r f r.hwext updates (not-true r.hwext e)));
       value_seen = where_true (shows_q r f) _ (λ e. seen.value_seen (has_q_is r f ∙ e));
       write_seen = where_true (shows_qe r f) _ (λ e. seen.write_seen (has_qe_is r f ∙ e));
@@ -150,8 +146,8 @@ field_steps v state next inputs face target a i r f carry wes res wires holds =
 
 -- the step of all fields of a register
 pub fields_step : (v state next inputs : Values) (face : LaidFace) (target : Target) (a : Access) (i : ℕ) (r : RegDesc) (fs : List FieldDesc) → CarryAccess v a
-    → v (we i) ≡ takes_write face target a (fields_in state) i r ∷ [] → v (re i) ≡ takes_read face target a i ∷ [] → EachField (FieldWires v state next inputs r) fs
-    → AllHold v state next (fields_entries i r fs) → EachField (FieldSteps face target a (fields_in state) (hardware_in inputs) (outcome_in v next) i r) fs
+    → v (write_net i r) ≡ writes_fields face target a (state_in state) i r ∷ [] → v (re i) ≡ takes_read face target a i ∷ [] → EachField (FieldWires v state next inputs r) fs
+    → AllHold v state next (fields_entries i r fs) → EachField (FieldSteps face target a (state_in state) (hardware_in inputs) (outcome_in v next) i r) fs
 fields_step v state next inputs face target a i r [] carry wes res wires holds = tt
 fields_step v state next inputs face target a i r (f ∷ fs) carry wes res wires holds = (
   field_steps v state next inputs face target a i r f carry wes res wires.0 (hold_front v state next (field_entries i r f) (fields_entries i r fs) holds),

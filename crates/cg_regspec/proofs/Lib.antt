@@ -9,6 +9,7 @@ pub mod Items
 pub mod AllRows
 pub mod Answer
 pub mod Fields
+pub mod Shadows
 pub mod Steps
 pub mod Resets
 pub mod PortsAre
@@ -21,6 +22,7 @@ pub mod WellPorts
 pub mod WellGiven
 pub mod WellHits
 pub mod WellEntries
+pub mod WellShadows
 pub mod WellFields
 pub mod WellFlops
 pub mod WellModule

@@ -9,7 +9,7 @@ use Rattle.cg_desc.specs.Laid.{IsLaid}
 use Rattle.cg_desc.specs.Target.{target_at}
 use Rattle.cg_desc.specs.declared.block.LaidFace.{LaidFace}
 use Rattle.cg_desc.proofs.OneTarget.{each_address_has_one_target}
-use Rattle.cg_regspec.specs.Meaning.{fields_in, RegisterMeans}
+use Rattle.cg_regspec.specs.Meaning.{state_in, RegisterMeans}
 use Rattle.cg_regspec.specs.Runs.{ModuleClock, IsClockOf, clock_in, outcome_of, RunsAreTheBlocks}
 
 -- the inputs of the clocks
@@ -32,15 +32,15 @@ run_exists name m face means (c ∷ cs) driven state fit =
 
 -- each run from such states is the block's
 run_is : (name : List ℕ) (m : Module) (face : LaidFace) → RegisterMeans name m face → IsLaid face → (clocks : List ModuleClock) → AllOf (IsClockOf m) clocks → (state : Values) → StatesFit m state
-    → (outs : List Clocked) → ModuleRun m state (inputs_of clocks) outs → BlockRun face (fields_in state) (map clock_in clocks) (map outcome_of outs)
-run_is name m face means laid [] driven state fit [] (stops states) = block.stops (fields_in state)
+    → (outs : List Clocked) → ModuleRun m state (inputs_of clocks) outs → BlockRun face (state_in state) (map clock_in clocks) (map outcome_of outs)
+run_is name m face means laid [] driven state fit [] (stops states) = block.stops (state_in state)
 run_is name m face means laid [] driven state fit (out ∷ outs) run = elim run [ ]
 run_is name m face means laid (c ∷ cs) driven state fit [] run = elim run [ ]
 run_is name m face means laid (c ∷ cs) driven state fit (out ∷ outs) (goes_on states inputs now later others valuation rest) =
     let widths = both_fit m c state driven.0 fit in
     let target = target_at face c.access.address in
     let there = (each_address_has_one_target face laid c.access.address).there in
-    block.goes_on (fields_in state) (clock_in c) target (outcome_of out) (map clock_in cs) (map outcome_of outs) there
+    block.goes_on (state_in state) (clock_in c) target (outcome_of out) (map clock_in cs) (map outcome_of outs) there
     (means.steps c.inputs state out.nets out.after c.access target widths driven.0.carries there valuation)
     (run_is name m face means laid cs driven.1 out.after (means.widths.next_fits c.inputs state out.nets out.after widths valuation) outs rest)
 

@@ -2,6 +2,7 @@
 use Rattle.std.proofs.Common.{◌≡◌, ℕ, suc, ◌/◌, ◌≤◌, max, eqb-true, ◌==◌, Bool, true, false, not, cond, ◌&&◌, List, [], ◌∷◌, Option, Some, None, refl, ap, ◌∙◌, arith}
 use Rattle.cg_desc.specs.AccessTable.{is_readable, is_writable, hardware_writes, hardware_sees}
 use Rattle.cg_desc.specs.Gates.{has_name, register_named, is_gate}
+use Rattle.cg_desc.specs.Shadow.{is_shadowed}
 use Rattle.cg_desc.specs.BlockStep.{highest_bit, shows_q, shows_qe, shows_re, brings_d, brings_de}
 use Rattle.cg_desc.specs.Laid.{FieldsFit, HasField}
 use Rattle.cg_desc.specs.declared.block.SwAccess.{SwAccess}
@@ -13,7 +14,7 @@ use Rattle.cg_desc.specs.declared.block.RegDesc.{RegDesc}
 use Rattle.cg_desc.specs.declared.block.Item.{Item}
 use Rattle.cg_desc.specs.declared.block.Item.TheVariants.{Reg, Window, SkipTo, Reserved}
 use Rattle.cg_desc.specs.declared.block.LaidRow.{LaidRow}
-use Rattle.cg_regspec.specs.RegisterModule.{is_in_word, takes_data, hardware_gets, hardware_sets, has_q, has_qe, has_re, has_d, has_de, last_byte, first_state, gate_or, gate_net}
+use Rattle.cg_regspec.specs.RegisterModule.{is_in_word, takes_data, hardware_gets, hardware_sets, has_q, has_qe, has_re, has_d, has_de, has_shadow, last_byte, first_state, gate_or, gate_net}
 
 -- ---- ports
 
@@ -74,6 +75,15 @@ has_de_is r f = by r.hwext (hardware_sets f.hw) (hardware_writes f.hw) (sets_is 
   by : (external x y : Bool) → x ≡ y → cond external false x ≡ (not external && y)
   by true x y e = refl
   by false x y e = e
+
+-- a register has a shadow where it is shadowed
+pub has_shadow_is : (r : RegDesc) → has_shadow r ≡ is_shadowed r
+has_shadow_is r = by r.hwext r.shadowed where
+  by : (external shadowed : Bool) → cond external false shadowed ≡ (shadowed && not external)
+  by true true = refl
+  by true false = refl
+  by false true = refl
+  by false false = refl
 
 -- ---- bytes
 

@@ -10,8 +10,8 @@ use Rattle.cg_desc.specs.declared.block.Item.{Item}
 use Rattle.cg_desc.specs.declared.block.Item.TheVariants.{Reg, Window, SkipTo, Reserved}
 use Rattle.cg_desc.specs.declared.block.LaidRow.{LaidRow}
 use Rattle.cg_desc.specs.declared.block.LaidFace.{LaidFace}
-use Rattle.cg_regspec.specs.NetNames.{reg_error, reg_rdata, state_net, q_net, qe_net, re_net, d_net, de_net}
-use Rattle.cg_regspec.specs.RegisterModule.{width_of, has_q, has_qe, has_re, port_if, has_d, has_de, field_ports, fields_ports, item_ports, rows_ports, states_of, item_states, rows_states, rows_entries, all_ones, answer_entries, entry_if, field_views, field_updates, field_entries, fields_entries, item_fields, rows_fields, item_windows, rows_windows, flops_of, item_flops, rows_flops, register_entries, register_module}
+use Rattle.cg_regspec.specs.NetNames.{reg_error, reg_rdata, phase_net, state_net, staged_net, next_staged_net, update_error_net, q_net, qe_net, re_net, d_net, de_net}
+use Rattle.cg_regspec.specs.RegisterModule.{width_of, has_q, has_qe, has_re, port_if, has_d, has_de, has_shadow, field_ports, fields_ports, item_ports, rows_ports, states_of, item_states, rows_states, rows_entries, all_ones, answer_entries, entry_if, stage_of, field_views, field_updates, field_entries, fields_entries, item_fields, rows_fields, item_windows, rows_windows, shadow_entries, flop, staged_flop, flops_of, item_flops, rows_flops, register_entries, register_module}
 use Rattle.cg_svspec.proofs.Parts.{all_join}
 use Rattle.cg_svspec.proofs.WellCounts.{count, count-append, plain_of, assigned_of, Balanced}
 
@@ -86,31 +86,37 @@ rows_assigned : (all : List LaidRow) (i : ℕ) (before : Expression) (rows : Lis
 rows_assigned all i before [] = refl
 rows_assigned all i before (row ∷ rows) = rows_assigned all (i + 1) _ rows
 
--- so has an assignment that is there where a test holds
-view_driven : (b : Bool) (n : List ℕ) (x : Expression) → AllOf IsDriven (entry_if b (assign n x))
-view_driven true n x = (tt, tt)
-view_driven false n x = tt
+-- so has such an entry that is there where a test holds
+driven_if : (b : Bool) (e : Entry) → IsDriven e → AllOf IsDriven (entry_if b e)
+driven_if true e driven = (driven, tt)
+driven_if false e driven = tt
 
 -- so have the wires of a stored field
 updates_driven : (b : Bool) (i : ℕ) (r : RegDesc) (f : FieldDesc) → AllOf IsDriven (cond b [] (field_updates i r f))
 updates_driven true i r f = tt
-updates_driven false i r f = (tt, (tt, tt))
+updates_driven false i r f = (tt, (tt, driven_if (has_shadow r) _ tt))
 
 -- so have all entries of a field
 field_driven : (i : ℕ) (r : RegDesc) (f : FieldDesc) → AllOf IsDriven (field_entries i r f)
 field_driven i r f =
     all_join IsDriven (cond r.hwext [] (field_updates i r f)) (field_views i r f) (updates_driven r.hwext i r f)
-    (all_join IsDriven (entry_if (has_q r f) _) _ (view_driven (has_q r f) _ _)
-    (all_join IsDriven (entry_if (has_qe r f) _) _ (view_driven (has_qe r f) _ _) (view_driven (has_re r f) _ _)))
+    (all_join IsDriven (entry_if (has_q r f) _) _ (driven_if (has_q r f) _ tt)
+    (all_join IsDriven (entry_if (has_qe r f) _) _ (driven_if (has_qe r f) _ tt) (driven_if (has_re r f) _ tt)))
 
 -- of all fields of a register
 fields_driven : (i : ℕ) (r : RegDesc) (fs : List FieldDesc) → AllOf IsDriven (fields_entries i r fs)
 fields_driven i r [] = tt
 fields_driven i r (f ∷ fs) = all_join IsDriven (field_entries i r f) (fields_entries i r fs) (field_driven i r f) (fields_driven i r fs)
 
+-- of a shadow
+shadow_driven : (b : Bool) (i : ℕ) (r : RegDesc) → AllOf IsDriven (cond b (shadow_entries i r) [])
+shadow_driven true i r = (tt, (tt, (tt, (tt, tt))))
+shadow_driven false i r = tt
+
 -- of an item
 item_driven : (i : ℕ) (item : Item) → AllOf IsDriven (item_fields i item)
-item_driven i (Reg r) = fields_driven i r r.fields
+item_driven i (Reg r) =
+    all_join IsDriven (cond (has_shadow r) (shadow_entries i r) []) (fields_entries i r r.fields) (shadow_driven (has_shadow r) i r) (fields_driven i r r.fields)
 item_driven i (Window w) = tt
 item_driven i (SkipTo to at) = tt
 item_driven i (Reserved words at) = tt
@@ -139,31 +145,39 @@ record OfStates (inputs : List (List ℕ)) (es : List Entry) : Type 0 where
   instances : instance_driven inputs es ≡ []
   assigned : assigned_of es ≡ []
 
+-- two such lists
+states_join : {inputs : List (List ℕ)} {xs ys : List Entry} → OfStates inputs xs → OfStates inputs ys → OfStates inputs (xs ++ ys)
+states_join {inputs} {xs} {ys} here later = record {
+  instances = instance-append inputs xs ys ∙ rw (here.instances, later.instances) refl;
+  assigned = assigned-append xs ys ∙ rw (here.assigned, later.assigned) refl;
+}
+
+-- a wire that is there where a test holds
+state_if : (inputs : List (List ℕ)) (b : Bool) (w : ℕ) (n : List ℕ) → OfStates inputs (entry_if b (wire w n))
+state_if inputs true w n = record { instances = refl; assigned = refl }
+state_if inputs false w n = record { instances = refl; assigned = refl }
+
 -- the states of a register
 states_of_states : (inputs : List (List ℕ)) (r : RegDesc) (fs : List FieldDesc) → OfStates inputs (states_of r fs)
 states_of_states inputs r [] = record { instances = refl; assigned = refl }
-states_of_states inputs r (f ∷ fs) = let later = states_of_states inputs r fs in record { instances = later.instances; assigned = later.assigned }
+states_of_states inputs r (f ∷ fs) =
+    let later = states_join (state_if inputs (has_shadow r) (width_of f) (staged_net r f)) (states_of_states inputs r fs) in
+    record { instances = later.instances; assigned = later.assigned }
 
 -- of an item
-item_of_states : (inputs : List (List ℕ)) (item : Item) → OfStates inputs (item_states item)
-item_of_states inputs (Reg r) = by r.hwext where
+item_of_states : (inputs : List (List ℕ)) (i : ℕ) (item : Item) → OfStates inputs (item_states i item)
+item_of_states inputs i (Reg r) = states_join (by r.hwext) (state_if inputs (has_shadow r) 1 (phase_net i)) where
   by : (b : Bool) → OfStates inputs (cond b [] (states_of r r.fields))
   by true = record { instances = refl; assigned = refl }
   by false = states_of_states inputs r r.fields
-item_of_states inputs (Window w) = record { instances = refl; assigned = refl }
-item_of_states inputs (SkipTo to at) = record { instances = refl; assigned = refl }
-item_of_states inputs (Reserved words at) = record { instances = refl; assigned = refl }
+item_of_states inputs i (Window w) = record { instances = refl; assigned = refl }
+item_of_states inputs i (SkipTo to at) = record { instances = refl; assigned = refl }
+item_of_states inputs i (Reserved words at) = record { instances = refl; assigned = refl }
 
 -- of all rows
-rows_of_states : (inputs : List (List ℕ)) (rows : List LaidRow) → OfStates inputs (rows_states rows)
-rows_of_states inputs [] = record { instances = refl; assigned = refl }
-rows_of_states inputs (row ∷ rows) =
-    let here = item_of_states inputs row.item in
-    let later = rows_of_states inputs rows in
-    record {
-      instances = instance-append inputs (item_states row.item) (rows_states rows) ∙ rw (here.instances, later.instances) refl;
-      assigned = assigned-append (item_states row.item) (rows_states rows) ∙ rw (here.assigned, later.assigned) refl;
-    }
+rows_of_states : (inputs : List (List ℕ)) (i : ℕ) (rows : List LaidRow) → OfStates inputs (rows_states i rows)
+rows_of_states inputs i [] = record { instances = refl; assigned = refl }
+rows_of_states inputs i (row ∷ rows) = states_join (item_of_states inputs i row.item) (rows_of_states inputs (i + 1) rows)
 
 -- what a list of flip-flops drives, against the states; no wire is declared, and nothing assigned
 record OfFlops (inputs : List (List ℕ)) (states flops : List Entry) : Type 0 where
@@ -171,34 +185,41 @@ record OfFlops (inputs : List (List ℕ)) (states flops : List Entry) : Type 0 w
   plain : plain_of flops ≡ []
   assigned : assigned_of flops ≡ []
 
+-- two such pairs
+flops_join : {inputs : List (List ℕ)} {xs ys fs gs : List Entry} → OfFlops inputs xs fs → OfFlops inputs ys gs → OfFlops inputs (xs ++ ys) (fs ++ gs)
+flops_join {inputs} {xs} {ys} {fs} {gs} here later = record {
+  instances = instance-append inputs fs gs ∙ (rw (here.instances, later.instances) refl ∙ sym (plain-append xs ys));
+  plain = plain-append fs gs ∙ rw (here.plain, later.plain) refl;
+  assigned = assigned-append fs gs ∙ rw (here.assigned, later.assigned) refl;
+}
+
+-- a flip-flop that is there where a test holds, with its state
+flop_if : (inputs : List (List ℕ)) (b : Bool) (w reset : ℕ) (instance from to : List ℕ) → OfFlops inputs (entry_if b (wire w to)) (entry_if b (flop w reset instance from to))
+flop_if inputs true w reset instance from to = record { instances = refl; plain = refl; assigned = refl }
+flop_if inputs false w reset instance from to = record { instances = refl; plain = refl; assigned = refl }
+
 -- the flip-flops of a register drive its states
 flops_of_flops : (inputs : List (List ℕ)) (r : RegDesc) (fs : List FieldDesc) → OfFlops inputs (states_of r fs) (flops_of r fs)
 flops_of_flops inputs r [] = record { instances = refl; plain = refl; assigned = refl }
 flops_of_flops inputs r (f ∷ fs) =
-    let later = flops_of_flops inputs r fs in
+    let later : OfFlops inputs (entry_if (has_shadow r) (wire (width_of f) (staged_net r f)) ++ states_of r fs) (entry_if (has_shadow r) (staged_flop r f) ++ flops_of r fs)
+    = flops_join (flop_if inputs (has_shadow r) (width_of f) 0 _ _ (staged_net r f)) (flops_of_flops inputs r fs) in
     record { instances = ap (λ z. state_net r f ∷ z) later.instances; plain = later.plain; assigned = later.assigned }
 
 -- those of an item
-item_of_flops : (inputs : List (List ℕ)) (item : Item) → OfFlops inputs (item_states item) (item_flops item)
-item_of_flops inputs (Reg r) = by r.hwext where
+item_of_flops : (inputs : List (List ℕ)) (i : ℕ) (item : Item) → OfFlops inputs (item_states i item) (item_flops i item)
+item_of_flops inputs i (Reg r) = flops_join (by r.hwext) (flop_if inputs (has_shadow r) 1 0 _ _ (phase_net i)) where
   by : (b : Bool) → OfFlops inputs (cond b [] (states_of r r.fields)) (cond b [] (flops_of r r.fields))
   by true = record { instances = refl; plain = refl; assigned = refl }
   by false = flops_of_flops inputs r r.fields
-item_of_flops inputs (Window w) = record { instances = refl; plain = refl; assigned = refl }
-item_of_flops inputs (SkipTo to at) = record { instances = refl; plain = refl; assigned = refl }
-item_of_flops inputs (Reserved words at) = record { instances = refl; plain = refl; assigned = refl }
+item_of_flops inputs i (Window w) = record { instances = refl; plain = refl; assigned = refl }
+item_of_flops inputs i (SkipTo to at) = record { instances = refl; plain = refl; assigned = refl }
+item_of_flops inputs i (Reserved words at) = record { instances = refl; plain = refl; assigned = refl }
 
 -- those of all rows
-rows_of_flops : (inputs : List (List ℕ)) (rows : List LaidRow) → OfFlops inputs (rows_states rows) (rows_flops rows)
-rows_of_flops inputs [] = record { instances = refl; plain = refl; assigned = refl }
-rows_of_flops inputs (row ∷ rows) =
-    let here = item_of_flops inputs row.item in
-    let later = rows_of_flops inputs rows in
-    record {
-      instances = instance-append inputs (item_flops row.item) (rows_flops rows) ∙ (rw (here.instances, later.instances) refl ∙ sym (plain-append (item_states row.item) (rows_states rows)));
-      plain = plain-append (item_flops row.item) (rows_flops rows) ∙ rw (here.plain, later.plain) refl;
-      assigned = assigned-append (item_flops row.item) (rows_flops rows) ∙ rw (here.assigned, later.assigned) refl;
-    }
+rows_of_flops : (inputs : List (List ℕ)) (i : ℕ) (rows : List LaidRow) → OfFlops inputs (rows_states i rows) (rows_flops i rows)
+rows_of_flops inputs i [] = record { instances = refl; plain = refl; assigned = refl }
+rows_of_flops inputs i (row ∷ rows) = flops_join (item_of_flops inputs i row.item) (rows_of_flops inputs (i + 1) rows)
 
 -- ---- outputs
 
@@ -223,7 +244,10 @@ views_assigned false false false q qe re x y z w others e = sym e
 -- the wires of a stored field are no assignments
 updates_assign_none : (b : Bool) (i : ℕ) (r : RegDesc) (f : FieldDesc) → assigned_of (cond b [] (field_updates i r f)) ≡ []
 updates_assign_none true i r f = refl
-updates_assign_none false i r f = refl
+updates_assign_none false i r f = by (has_shadow r) where
+  by : (b : Bool) → assigned_of (entry_if b (drive (width_of f) (next_staged_net r f) (stage_of i r f))) ≡ []
+  by true = refl
+  by false = refl
 
 -- what hardware brings is no output
 brought_no_output : (r : RegDesc) (f : FieldDesc) → outputs_of (port_if (has_d r f) (input_port (width_of f) (d_net r f)) ++ port_if (has_de r f) (input_port 1 (de_net r f))) ≡ []
@@ -245,12 +269,30 @@ fields_outputs i r (f ∷ fs) =
     assigned-append (field_entries i r f) (fields_entries i r fs)
     ∙ (rw (field_outputs i r f, fields_outputs i r fs) refl ∙ sym (outputs-append (field_ports r f) (fields_ports r fs)))
 
+-- so is the update error of a register with a shadow
+shadow_outputs : (b : Bool) (i : ℕ) (r : RegDesc) → assigned_of (cond b (shadow_entries i r) []) ≡ outputs_of (port_if b (output_port 1 (update_error_net r)))
+shadow_outputs true i r = refl
+shadow_outputs false i r = refl
+
+-- those of a register
+register_outputs : (n : List ℕ) (i : ℕ) (r : RegDesc) → count n (outputs_of (item_ports (Reg r))) ≡ count n (assigned_of (item_fields i (Reg r)))
+register_outputs n i r =
+    let update : List Port = port_if (has_shadow r) (output_port 1 (update_error_net r)) in
+    let shadow : List Entry = cond (has_shadow r) (shadow_entries i r) [] in
+    let ports : count n (outputs_of (item_ports (Reg r))) ≡ count n (outputs_of (fields_ports r r.fields)) + count n (outputs_of update) =
+    ap (count n) (outputs-append (fields_ports r r.fields) update) ∙ count-append n (outputs_of (fields_ports r r.fields)) (outputs_of update) in
+    let entries : count n (assigned_of (item_fields i (Reg r))) ≡ count n (assigned_of shadow) + count n (assigned_of (fields_entries i r r.fields)) =
+    ap (count n) (assigned-append shadow (fields_entries i r r.fields)) ∙ count-append n (assigned_of shadow) (assigned_of (fields_entries i r r.fields)) in
+    let of_fields : count n (assigned_of (fields_entries i r r.fields)) ≡ count n (outputs_of (fields_ports r r.fields)) = ap (count n) (fields_outputs i r r.fields) in
+    let of_shadow : count n (assigned_of shadow) ≡ count n (outputs_of update) = ap (count n) (shadow_outputs (has_shadow r) i r) in
+    omega (arith, ports, entries, of_fields, of_shadow)
+
 -- an item's outputs are assigned among the fields or the windows
-item_outputs : (i : ℕ) (item : Item) → outputs_of (item_ports item) ≡ assigned_of (item_fields i item) ++ assigned_of (item_windows i item)
-item_outputs i (Reg r) = sym (append-nil (assigned_of (fields_entries i r r.fields)) ∙ fields_outputs i r r.fields)
-item_outputs i (Window w) = refl
-item_outputs i (SkipTo to at) = refl
-item_outputs i (Reserved words at) = refl
+item_outputs : (n : List ℕ) (i : ℕ) (item : Item) → count n (outputs_of (item_ports item)) ≡ count n (assigned_of (item_fields i item)) + count n (assigned_of (item_windows i item))
+item_outputs n i (Reg r) = register_outputs n i r ∙ omega arith
+item_outputs n i (Window w) = omega arith
+item_outputs n i (SkipTo to at) = omega arith
+item_outputs n i (Reserved words at) = omega arith
 
 -- those of all rows
 rows_outputs : (n : List ℕ) (i : ℕ) (rows : List LaidRow) → count n (outputs_of (rows_ports rows)) ≡ count n (assigned_of (rows_fields i rows)) + count n (assigned_of (rows_windows i rows))
@@ -259,7 +301,7 @@ rows_outputs n i (row ∷ rows) =
     let split : count n (outputs_of (rows_ports (row ∷ rows))) ≡ count n (outputs_of (item_ports row.item)) + count n (outputs_of (rows_ports rows))
     = ap (count n) (outputs-append (item_ports row.item) (rows_ports rows)) ∙ count-append n (outputs_of (item_ports row.item)) (outputs_of (rows_ports rows)) in
     let here : count n (outputs_of (item_ports row.item)) ≡ count n (assigned_of (item_fields i row.item)) + count n (assigned_of (item_windows i row.item))
-    = ap (count n) (item_outputs i row.item) ∙ count-append n (assigned_of (item_fields i row.item)) (assigned_of (item_windows i row.item)) in
+    = item_outputs n i row.item in
     let fields : count n (assigned_of (rows_fields i (row ∷ rows))) ≡ count n (assigned_of (item_fields i row.item)) + count n (assigned_of (rows_fields (i + 1) rows))
     = ap (count n) (assigned-append (item_fields i row.item) (rows_fields (i + 1) rows)) ∙ count-append n (assigned_of (item_fields i row.item)) (assigned_of (rows_fields (i + 1) rows)) in
     let windows : count n (assigned_of (rows_windows i (row ∷ rows))) ≡ count n (assigned_of (item_windows i row.item)) + count n (assigned_of (rows_windows (i + 1) rows))
@@ -300,23 +342,23 @@ pub answers_driven : (rows : List LaidRow) → AllOf IsDriven (answer_entries ro
 answers_driven rows = (tt, (tt, (tt, (tt, (tt, tt)))))
 
 -- the flip-flops of a register module drive its states
-pub module_instances : (inputs : List (List ℕ)) (face : LaidFace) → instance_driven inputs (register_entries face) ≡ plain_of (rows_states face.rows)
+pub module_instances : (inputs : List (List ℕ)) (face : LaidFace) → instance_driven inputs (register_entries face) ≡ plain_of (rows_states 0 face.rows)
 module_instances inputs face =
-    parts_driven inputs (rows_states face.rows) (rows_entries face.rows 0 all_ones face.rows) (answer_entries face.rows) (rows_fields 0 face.rows) (rows_windows 0 face.rows) (rows_flops face.rows)
-    (rows_of_states inputs face.rows) (rows_driven face.rows 0 all_ones face.rows) (answers_driven face.rows) (rows_fields_driven 0 face.rows) (rows_windows_driven 0 face.rows)
-    ∙ (rows_of_flops inputs face.rows).instances
+    parts_driven inputs (rows_states 0 face.rows) (rows_entries face.rows 0 all_ones face.rows) (answer_entries face.rows) (rows_fields 0 face.rows) (rows_windows 0 face.rows) (rows_flops 0 face.rows)
+    (rows_of_states inputs 0 face.rows) (rows_driven face.rows 0 all_ones face.rows) (answers_driven face.rows) (rows_fields_driven 0 face.rows) (rows_windows_driven 0 face.rows)
+    ∙ (rows_of_flops inputs 0 face.rows).instances
 
 -- the plain wires of a register module are its states
-module_plain : (face : LaidFace) → plain_of (register_entries face) ≡ plain_of (rows_states face.rows)
+module_plain : (face : LaidFace) → plain_of (register_entries face) ≡ plain_of (rows_states 0 face.rows)
 module_plain face =
-    parts_plain (rows_states face.rows) (rows_entries face.rows 0 all_ones face.rows) (answer_entries face.rows) (rows_fields 0 face.rows) (rows_windows 0 face.rows) (rows_flops face.rows)
-    (rows_driven face.rows 0 all_ones face.rows) (answers_driven face.rows) (rows_fields_driven 0 face.rows) (rows_windows_driven 0 face.rows) (rows_of_flops [] face.rows).plain
+    parts_plain (rows_states 0 face.rows) (rows_entries face.rows 0 all_ones face.rows) (answer_entries face.rows) (rows_fields 0 face.rows) (rows_windows 0 face.rows) (rows_flops 0 face.rows)
+    (rows_driven face.rows 0 all_ones face.rows) (answers_driven face.rows) (rows_fields_driven 0 face.rows) (rows_windows_driven 0 face.rows) (rows_of_flops [] 0 face.rows).plain
 
 -- the nets that a register module assigns
 module_assigned : (face : LaidFace) → assigned_of (register_entries face) ≡ reg_error ∷ reg_rdata ∷ (assigned_of (rows_fields 0 face.rows) ++ assigned_of (rows_windows 0 face.rows))
 module_assigned face =
-    parts_assigned (rows_states face.rows) (rows_entries face.rows 0 all_ones face.rows) (answer_entries face.rows) (rows_fields 0 face.rows) (rows_windows 0 face.rows) (rows_flops face.rows)
-    (rows_of_states [] face.rows).assigned (rows_assigned face.rows 0 all_ones face.rows) (rows_of_flops [] face.rows).assigned
+    parts_assigned (rows_states 0 face.rows) (rows_entries face.rows 0 all_ones face.rows) (answer_entries face.rows) (rows_fields 0 face.rows) (rows_windows 0 face.rows) (rows_flops 0 face.rows)
+    (rows_of_states [] 0 face.rows).assigned (rows_assigned face.rows 0 all_ones face.rows) (rows_of_flops [] 0 face.rows).assigned
 
 -- a register module is balanced
 pub module_balanced : (name : List ℕ) (face : LaidFace) → Balanced (register_module name face)

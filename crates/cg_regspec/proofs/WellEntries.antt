@@ -2,7 +2,7 @@
 use Rattle.std.proofs.Common.{◌≡◌, ℕ, suc, ◌+◌, ◌-◌, ◌^◌, ◌<◌, ◌≤◌, Bool, true, false, cond, inl, List, [], ◌∷◌, length, refl, subst, arith, codes}
 use Rattle.cg_svspec.specs.Characters.{IsName, IsWord}
 use Rattle.cg_svspec.specs.Printable.{IsWidth, AllOf}
-use Rattle.cg_svspec.specs.Tree.{Expression, net, cat, inv, any, and, Expressions, none, more}
+use Rattle.cg_svspec.specs.Tree.{Expression, net, cat, inv, any, and, Expressions, none, more, Entry, wire}
 use Rattle.cg_desc.specs.BlockStep.{EachField}
 use Rattle.cg_desc.specs.Laid.{HasRow}
 use Rattle.cg_desc.specs.declared.block.FieldDesc.{FieldDesc}
@@ -10,8 +10,8 @@ use Rattle.cg_desc.specs.declared.block.RegDesc.{RegDesc}
 use Rattle.cg_desc.specs.declared.block.Item.{Item}
 use Rattle.cg_desc.specs.declared.block.Item.TheVariants.{Reg, Window, SkipTo, Reserved}
 use Rattle.cg_desc.specs.declared.block.LaidRow.{LaidRow}
-use Rattle.cg_regspec.specs.NetNames.{reg_we, reg_re, reg_error, hit_any, wbad_any, rbad_any, hit, wbad, rbad, we, re, rd, state_net}
-use Rattle.cg_regspec.specs.RegisterModule.{width_of, states_of, item_states, rows_states, rows_entries, all_ones, last_rd, highest_first, refused, answer_entries}
+use Rattle.cg_regspec.specs.NetNames.{reg_we, reg_re, reg_error, hit_any, wbad_any, rbad_any, hit, wbad, rbad, we, re, rd, phase_net, state_net, staged_net}
+use Rattle.cg_regspec.specs.RegisterModule.{width_of, has_shadow, entry_if, states_of, item_states, rows_states, rows_entries, all_ones, last_rd, highest_first, refused, answer_entries}
 use Rattle.cg_svspec.proofs.WellNames.{literal_name}
 use Rattle.cg_regspec.proofs.WellNames.{row_name, field_name}
 use Rattle.cg_svspec.proofs.WellSound.{Above, Up, Has, up_up, declared_up, has_up, Sound, SoundParts, sound_deeper, sound_net, sound_lit, sound_inv, sound_any, sound_and, sound_or, sound_pick, sound_none, sound_more, HasPart, sound_cat, with_wire, with_drive, with_assign, after, up_drive, up_assign, drive_has, Sounds, sounds_none, sounds_wire, sounds_drive, sounds_assign, sounds_join, GivenBy}
@@ -21,35 +21,47 @@ use Rattle.cg_regspec.proofs.WellHits.{hit_sound, write_refused_sound, read_refu
 
 -- ---- the states
 
+-- a wire that is there where a test holds fits
+state_if_sounds : {inputs : List (List ℕ)} (e : Above) (b : Bool) (w : ℕ) (n : List ℕ) → IsWidth w → IsName n → Sounds inputs e (entry_if b (wire w n))
+state_if_sounds e true w n wide name = sounds_wire wide name sounds_none
+state_if_sounds e false w n wide name = sounds_none
+
 -- the wires of the states of a register fit
 fields_states_sound : {inputs : List (List ℕ)} (e : Above) (r : RegDesc) (fs : List FieldDesc) → IsWord r.name → EachField FieldFits fs → Sounds inputs e (states_of r fs)
 fields_states_sound e r [] word fit = sounds_none
 fields_states_sound e r (f ∷ fs) word fit =
-    sounds_wire (field_width f fit.0) (field_name r f (codes "_s") word fit.0.word refl) (fields_states_sound (with_wire e (state_net r f) (width_of f)) r fs word fit.1)
-
--- those of an item
-item_states_sound : {inputs : List (List ℕ)} (e : Above) (all : List LaidRow) (first : ℕ) (item : Item) → ItemOk all first item → Sounds inputs e (item_states item)
-item_states_sound {inputs} e all first (Reg r) ok = by r.hwext (fields_states_sound e r r.fields ok.word ok.each) where
-  by : (b : Bool) → Sounds inputs e (states_of r r.fields) → Sounds inputs e (cond b [] (states_of r r.fields))
-  by true s = sounds_none
-  by false s = s
-item_states_sound e all first (Window w) ok = sounds_none
-item_states_sound e all first (SkipTo to at) ok = absurd ok
-item_states_sound e all first (Reserved words at) ok = absurd ok
-
--- those of all rows
-pub rows_states_sound : {inputs : List (List ℕ)} (e : Above) (all rows : List LaidRow) → RowsOk all rows → Sounds inputs e (rows_states rows)
-rows_states_sound e all [] ok = sounds_none
-rows_states_sound e all (row ∷ rows) ok =
-    sounds_join e (item_states row.item) (rows_states rows) (item_states_sound e all row.first row.item ok.0) (rows_states_sound (after e (item_states row.item)) all rows ok.1)
-
--- ---- the rows
+    let e1 : Above = with_wire e (state_net r f) (width_of f) in
+    let shadow : List Entry = entry_if (has_shadow r) (wire (width_of f) (staged_net r f)) in
+    sounds_wire (field_width f fit.0) (field_name r f (codes "_s") word fit.0.word refl)
+    (sounds_join e1 shadow (states_of r fs) (state_if_sounds e1 (has_shadow r) (width_of f) (staged_net r f) (field_width f fit.0) (field_name r f (codes "_t") word fit.0.word refl))
+    (fields_states_sound (after e1 shadow) r fs word fit.1))
 
 -- a bit is a width
 bit_width : IsWidth 1
 bit_width = (omega arith, omega arith)
 
--- and so is a word
+-- those of an item
+item_states_sound : {inputs : List (List ℕ)} (e : Above) (all : List LaidRow) (first i : ℕ) (item : Item) → ItemOk all first item → Sounds inputs e (item_states i item)
+item_states_sound {inputs} e all first i (Reg r) ok =
+    sounds_join e (cond r.hwext [] (states_of r r.fields)) (entry_if (has_shadow r) (wire 1 (phase_net i))) (by r.hwext (fields_states_sound e r r.fields ok.word ok.each))
+    (state_if_sounds (after e (cond r.hwext [] (states_of r r.fields))) (has_shadow r) 1 (phase_net i) bit_width (row_name (codes "ph_") i refl refl)) where
+      by : (b : Bool) → Sounds inputs e (states_of r r.fields) → Sounds inputs e (cond b [] (states_of r r.fields))
+      by true s = sounds_none
+      by false s = s
+item_states_sound e all first i (Window w) ok = sounds_none
+item_states_sound e all first i (SkipTo to at) ok = absurd ok
+item_states_sound e all first i (Reserved words at) ok = absurd ok
+
+-- those of all rows
+pub rows_states_sound : {inputs : List (List ℕ)} (e : Above) (all : List LaidRow) (i : ℕ) (rows : List LaidRow) → RowsOk all rows → Sounds inputs e (rows_states i rows)
+rows_states_sound e all i [] ok = sounds_none
+rows_states_sound e all i (row ∷ rows) ok =
+    sounds_join e (item_states i row.item) (rows_states (i + 1) rows) (item_states_sound e all row.first i row.item ok.0)
+    (rows_states_sound (after e (item_states i row.item)) all (i + 1) rows ok.1)
+
+-- ---- the rows
+
+-- a word is a width
 word_width : IsWidth 32
 word_width = (omega arith, omega arith)
 

@@ -12,7 +12,7 @@ use Rattle.cg_svspec.proofs.WellNames.{has_underscore, is_word, each_join, each_
 use Rattle.cg_desc.specs.declared.block.FieldDesc.{FieldDesc}
 use Rattle.cg_desc.specs.declared.block.RegDesc.{RegDesc}
 use Rattle.cg_desc.specs.declared.block.WindowDesc.{WindowDesc}
-use Rattle.cg_regspec.specs.NetNames.{base, window_base, flop_instance}
+use Rattle.cg_regspec.specs.NetNames.{base, window_base, flop_instance, staged_instance, update_error_net}
 use Rattle.cg_regspec.specs.RegisterModule.{register_module_name}
 
 -- ---- rows
@@ -24,6 +24,12 @@ digit_in_name c h = grind (arith, nat_tests)
 -- a prefix with a row's number
 pub row_name : (a : List ℕ) (i : ℕ) → is_word a ≡ true → has_underscore a ≡ true → IsName (a ++ decimal i)
 row_name a i w h = prefix_name a (decimal i) w h (each_weaker is_digit is_name_character digit_in_name (decimal i) (decimal_digits i))
+
+-- with an ending behind the number
+pub row_end_name : (a : List ℕ) (i : ℕ) (end : List ℕ) → is_word a ≡ true → has_underscore a ≡ true → list_all is_name_character end ≡ true → IsName (a ++ (decimal i ++ end))
+row_end_name a i end w h e =
+    prefix_name a (decimal i ++ end) w h
+    (each_join is_name_character (decimal i) end (each_weaker is_digit is_name_character digit_in_name (decimal i) (decimal_digits i)) (each_passes is_name_character end e))
 
 -- ---- fields and windows
 
@@ -65,6 +71,19 @@ field_name r f end a b e =
 -- a field's instance
 pub flop_instance_name : (r : RegDesc) (f : FieldDesc) → IsWord r.name → IsWord f.name → IsName (flop_instance r f)
 flop_instance_name r f a b = prefix_name (codes "u_") (base r f) refl refl (word_characters (base r f) (base_word r f a b))
+
+-- and the one of its staged value
+pub staged_instance_name : (r : RegDesc) (f : FieldDesc) → IsWord r.name → IsWord f.name → IsName (staged_instance r f)
+staged_instance_name r f a b =
+    prefix_name (codes "u_") (base r f ++ codes "_t") refl refl
+    (each_join is_name_character (base r f) (codes "_t") (word_characters (base r f) (base_word r f a b)) (each_passes is_name_character (codes "_t") refl))
+
+-- a shadowed register's port
+pub update_error_name : (r : RegDesc) → IsWord r.name → IsName (update_error_net r)
+unfolding update_error_net
+update_error_name r a =
+    prefix_name (codes "upd_") (str_to_ascii_lowercase r.name ++ codes "_err") refl refl
+    (each_join is_name_character (str_to_ascii_lowercase r.name) (codes "_err") (word_characters (str_to_ascii_lowercase r.name) (lower_word r.name a)) (each_passes is_name_character (codes "_err") refl))
 
 -- a window has characters of names alone, with an ending of such
 window_characters : (w : WindowDesc) (end : List ℕ) → IsWord w.name → list_all is_name_character end ≡ true → Each is_name_character (str_to_ascii_lowercase w.name ++ end)

@@ -11,11 +11,11 @@ use Rattle.cg_desc.specs.declared.block.WindowDesc.{WindowDesc}
 use Rattle.cg_desc.specs.declared.block.Item.{Item}
 use Rattle.cg_desc.specs.declared.block.Item.TheVariants.{Reg, Window, SkipTo, Reserved}
 use Rattle.cg_desc.specs.declared.block.LaidRow.{LaidRow}
-use Rattle.cg_regspec.specs.NetNames.{q_net, qe_net, re_net, d_net, de_net}
-use Rattle.cg_regspec.specs.RegisterModule.{width_of, has_q, has_qe, has_re, port_if, has_d, has_de, field_ports, fields_ports, window_ports, item_ports, rows_ports}
+use Rattle.cg_regspec.specs.NetNames.{update_error_net, q_net, qe_net, re_net, d_net, de_net}
+use Rattle.cg_regspec.specs.RegisterModule.{width_of, has_q, has_qe, has_re, port_if, has_d, has_de, has_shadow, field_ports, fields_ports, window_ports, item_ports, rows_ports}
 use Rattle.cg_svspec.proofs.Parts.{all_join}
 use Rattle.cg_svspec.proofs.WellNames.{literal_name}
-use Rattle.cg_regspec.proofs.WellNames.{field_name, window_name}
+use Rattle.cg_regspec.proofs.WellNames.{field_name, update_error_name, window_name}
 use Rattle.cg_regspec.proofs.WellRows.{FieldFits, field_width, field_narrow, ItemOk, RowsOk}
 
 -- a printable port of at most 32 bits
@@ -82,7 +82,9 @@ window_ports_fit w word = (
 
 -- the ports of an item
 item_ports_fit : (all : List LaidRow) (first : ℕ) (item : Item) → ItemOk all first item → AllOf PortFits (item_ports item)
-item_ports_fit all first (Reg r) ok = fields_ports_fit r r.fields ok.word ok.each
+item_ports_fit all first (Reg r) ok =
+    all_join PortFits (fields_ports r r.fields) (port_if (has_shadow r) (output_port 1 (update_error_net r))) (fields_ports_fit r r.fields ok.word ok.each)
+    (port_if_fits (has_shadow r) _ (bit_port false (update_error_net r) (update_error_name r ok.word)))
 item_ports_fit all first (Window w) ok = window_ports_fit w ok.word
 item_ports_fit all first (SkipTo to at) ok = absurd ok
 item_ports_fit all first (Reserved words at) ok = absurd ok

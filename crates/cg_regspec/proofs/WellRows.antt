@@ -24,6 +24,11 @@ pub each_fits : (from : ℕ) (fs : List FieldDesc) → FieldsFit from fs → Eac
 each_fits from [] fit = tt
 each_fits from (f ∷ fs) fit = (record { word = fit.0; order = fit.2; low = fit.3; reset = fit.4 }, each_fits (suc f.msb) fs fit.5)
 
+-- fields that share no bit are at most 32
+pub few_fields : (from : ℕ) (fs : List FieldDesc) → FieldsFit from fs → from ≤ 32 → from + length fs ≤ 32
+few_fields from [] fit low = omega arith
+few_fields from (f ∷ fs) fit low = omega (arith, fit.1, fit.2, few_fields (suc f.msb) fs fit.5 fit.3)
+
 -- a field has 1 to 32 bits
 pub field_some : (f : FieldDesc) → FieldFits f → 0 < width_of f
 field_some f fit = omega (arith, fit.order)

@@ -59,6 +59,25 @@ re i = codes "re_" ++ decimal i
 abbrev pub rd : ℕ → List ℕ
 rd i = codes "rd_" ++ decimal i
 
+-- of a shadowed register's row: its phase, and the next one
+abbrev pub phase_net : ℕ → List ℕ
+phase_net i = codes "ph_" ++ decimal i
+
+abbrev pub next_phase_net : ℕ → List ℕ
+next_phase_net i = codes "ph_" ++ (decimal i ++ codes "_n")
+
+-- every field's written value equals its staged one
+abbrev pub equal_net : ℕ → List ℕ
+equal_net i = codes "eq_" ++ decimal i
+
+-- a write commits
+abbrev pub commit_net : ℕ → List ℕ
+commit_net i = codes "ok_" ++ decimal i
+
+-- the instance that stores the phase
+abbrev pub phase_instance : ℕ → List ℕ
+phase_instance i = codes "u_ph_" ++ decimal i
+
 -- ---- a field's nets
 
 -- what a field's names begin with
@@ -92,9 +111,26 @@ d_net r f = base r f ++ codes "_d"
 abbrev pub de_net : RegDesc → FieldDesc → List ℕ
 de_net r f = base r f ++ codes "_de"
 
+-- the staged value of a field of a shadowed register, and the next one
+abbrev pub staged_net : RegDesc → FieldDesc → List ℕ
+staged_net r f = base r f ++ codes "_t"
+
+abbrev pub next_staged_net : RegDesc → FieldDesc → List ℕ
+next_staged_net r f = base r f ++ codes "_v"
+
 -- the instance that stores the value
 abbrev pub flop_instance : RegDesc → FieldDesc → List ℕ
 flop_instance r f = codes "u_" ++ base r f
+
+-- and the one that stores the staged value
+abbrev pub staged_instance : RegDesc → FieldDesc → List ℕ
+staged_instance r f = codes "u_" ++ (base r f ++ codes "_t")
+
+-- ---- a shadowed register's port
+
+-- a second write differs from the first
+unfoldable pub update_error_net : RegDesc → List ℕ
+update_error_net r = codes "upd_" ++ (str_to_ascii_lowercase r.name ++ codes "_err")
 
 -- ---- a window's ports
 

@@ -4,6 +4,7 @@ use Rattle.std.specs.Prelude.{◌≡◌, ℕ, suc, ◌-◌, ◌↔◌, true, Lis
 use Rattle.cg_svspec.specs.Tree.{Module}
 use Rattle.cg_svspec.specs.Names.{Among, Differ, port_names}
 use Rattle.cg_svspec.specs.Register.{input_port, output_port}
+use Rattle.cg_desc.specs.Shadow.{is_shadowed}
 use Rattle.cg_desc.specs.BlockStep.{shows_q, shows_qe, shows_re, brings_d, brings_de}
 use Rattle.cg_desc.specs.declared.block.FieldDesc.{FieldDesc}
 use Rattle.cg_desc.specs.declared.block.RegDesc.{RegDesc}
@@ -11,7 +12,7 @@ use Rattle.cg_desc.specs.declared.block.WindowDesc.{WindowDesc}
 use Rattle.cg_desc.specs.declared.block.Item.TheVariants.{Reg, Window}
 use Rattle.cg_desc.specs.declared.block.LaidRow.{LaidRow}
 use Rattle.cg_desc.specs.declared.block.LaidFace.{LaidFace}
-use Rattle.cg_regspec.specs.NetNames.{reg_we, reg_re, reg_addr, reg_wdata, reg_be, reg_rdata, reg_error, q_net, qe_net, re_net, d_net, de_net, window_we, window_re, window_addr, window_wdata, window_be, window_rdata}
+use Rattle.cg_regspec.specs.NetNames.{reg_we, reg_re, reg_addr, reg_wdata, reg_be, reg_rdata, reg_error, q_net, qe_net, re_net, d_net, de_net, update_error_net, window_we, window_re, window_addr, window_wdata, window_be, window_rdata}
 
 -- the interface has a register with this field
 pub record FieldOf (face : LaidFace) (r : RegDesc) (f : FieldDesc) : Type 0 where
@@ -19,6 +20,12 @@ pub record FieldOf (face : LaidFace) (r : RegDesc) (f : FieldDesc) : Type 0 wher
   pub in_face : Among row face.rows
   pub is_register : row.item ≡ Reg r
   pub in_register : Among f r.fields
+
+-- the interface has this register
+pub record RegisterOf (face : LaidFace) (r : RegDesc) : Type 0 where
+  pub row : LaidRow
+  pub in_face : Among row face.rows
+  pub is_register : row.item ≡ Reg r
 
 -- the interface has this window
 pub record WindowOf (face : LaidFace) (w : WindowDesc) : Type 0 where
@@ -35,6 +42,8 @@ pub data IsOutput (face : LaidFace) : ℕ → List ℕ → Type 0 where
   field_value : (r : RegDesc) (f : FieldDesc) → FieldOf face r f → shows_q r f ≡ true → IsOutput face (suc f.msb - f.lsb) (q_net r f)
   field_written : (r : RegDesc) (f : FieldDesc) → FieldOf face r f → shows_qe r f ≡ true → IsOutput face 1 (qe_net r f)
   field_read : (r : RegDesc) (f : FieldDesc) → FieldOf face r f → shows_re r f ≡ true → IsOutput face 1 (re_net r f)
+  -- what it sees of a shadowed register: that a second write differs
+  update_error : (r : RegDesc) → RegisterOf face r → is_shadowed r ≡ true → IsOutput face 1 (update_error_net r)
   -- what hardware sees of a window: the strobes of a write and of a read, the address, the write data and the byte strobes
   window_written : (w : WindowDesc) → WindowOf face w → IsOutput face 1 (window_we w)
   window_read : (w : WindowDesc) → WindowOf face w → IsOutput face 1 (window_re w)

@@ -16,7 +16,7 @@ use Rattle.cg_desc.specs.declared.block.Item.TheVariants.{Reg, Window, SkipTo, R
 use Rattle.cg_desc.specs.declared.block.LaidRow.{LaidRow}
 use Rattle.cg_desc.specs.declared.block.LaidFace.{LaidFace}
 use Rattle.cg_desc.specs.declared.block.LaidBlock.{LaidBlock}
-use Rattle.cg_regspec.specs.NetNames.{reg_we, reg_re, reg_addr, reg_wdata, reg_be, reg_rdata, reg_error, hit_any, wbad_any, rbad_any, hit, wbad, rbad, we, re, rd, state_net, hold_net, next_net, q_net, qe_net, re_net, d_net, de_net, flop_instance, window_we, window_re, window_addr, window_wdata, window_be, window_rdata}
+use Rattle.cg_regspec.specs.NetNames.{reg_we, reg_re, reg_addr, reg_wdata, reg_be, reg_rdata, reg_error, hit_any, wbad_any, rbad_any, hit, wbad, rbad, we, re, rd, phase_net, next_phase_net, equal_net, commit_net, phase_instance, state_net, hold_net, next_net, q_net, qe_net, re_net, d_net, de_net, staged_net, next_staged_net, flop_instance, staged_instance, update_error_net, window_we, window_re, window_addr, window_wdata, window_be, window_rdata}
 
 -- ---- ports
 
@@ -84,6 +84,10 @@ has_d r f = cond r.hwext (is_in_word f.sw) (hardware_sets f.hw)
 abbrev pub has_de : RegDesc → FieldDesc → Bool
 has_de r f = cond r.hwext false (hardware_sets f.hw)
 
+-- a register has a phase, and its fields staged values, where it is shadowed and stores them
+abbrev pub has_shadow : RegDesc → Bool
+has_shadow r = cond r.hwext false r.shadowed
+
 abbrev pub field_ports : RegDesc → FieldDesc → List Port
 field_ports r f =
     port_if (has_q r f) (output_port (width_of f) (q_net r f))
@@ -102,7 +106,7 @@ window_ports w =
     ∷ output_port 4 (window_be w) ∷ input_port 32 (window_rdata w) ∷ []
 
 abbrev pub item_ports : Item → List Port
-item_ports (Reg r) = fields_ports r r.fields
+item_ports (Reg r) = fields_ports r r.fields ++ port_if (has_shadow r) (output_port 1 (update_error_net r))
 item_ports (Window w) = window_ports w
 item_ports (SkipTo to at) = []
 item_ports (Reserved words at) = []
@@ -111,21 +115,25 @@ abbrev pub rows_ports : List LaidRow → List Port
 rows_ports [] = []
 rows_ports (row ∷ rows) = item_ports row.item ++ rows_ports rows
 
--- ---- 1: the stored fields
+-- ---- 1: the stored fields, with the staged values, and the phases
+
+-- an entry where the test holds
+abbrev pub entry_if : Bool → Entry → List Entry
+entry_if b e = cond b (e ∷ []) []
 
 abbrev pub states_of : RegDesc → List FieldDesc → List Entry
 states_of r [] = []
-states_of r (f ∷ fs) = wire (width_of f) (state_net r f) ∷ states_of r fs
+states_of r (f ∷ fs) = wire (width_of f) (state_net r f) ∷ (entry_if (has_shadow r) (wire (width_of f) (staged_net r f)) ++ states_of r fs)
 
-abbrev pub item_states : Item → List Entry
-item_states (Reg r) = cond r.hwext [] (states_of r r.fields)
-item_states (Window w) = []
-item_states (SkipTo to at) = []
-item_states (Reserved words at) = []
+abbrev pub item_states : ℕ → Item → List Entry
+item_states i (Reg r) = cond r.hwext [] (states_of r r.fields) ++ entry_if (has_shadow r) (wire 1 (phase_net i))
+item_states i (Window w) = []
+item_states i (SkipTo to at) = []
+item_states i (Reserved words at) = []
 
-abbrev pub rows_states : List LaidRow → List Entry
-rows_states [] = []
-rows_states (row ∷ rows) = item_states row.item ++ rows_states rows
+abbrev pub rows_states : ℕ → List LaidRow → List Entry
+rows_states i [] = []
+rows_states i (row ∷ rows) = item_states i row.item ++ rows_states (i + 1) rows
 
 -- ---- 2: the rows
 
@@ -282,36 +290,41 @@ zero_bits w = lit w 0
 abbrev pub one_bits : ℕ → Expression
 one_bits w = lit w (2 ^ w - 1)
 
--- the field's next value in row i, over the value after hardware
-abbrev pub next_of : SwAccess → ℕ → Expression → Expression → ℕ → Expression
-next_of Rw i data_in h w = pick (net (we i)) data_in h
-next_of Wo i data_in h w = pick (net (we i)) data_in h
-next_of Ro i data_in h w = h
-next_of Nothing i data_in h w = h
-next_of Rw1s i data_in h w = or h (pick (net (we i)) data_in (zero_bits w))
-next_of Rw1c i data_in h w = and h (pick (net (we i)) (inv data_in) (one_bits w))
-next_of R0w1c i data_in h w = and h (pick (net (we i)) (inv data_in) (one_bits w))
-next_of Rw0c i data_in h w = and h (pick (net (we i)) data_in (one_bits w))
-next_of Rc i data_in h w = pick (net (re i)) (zero_bits w) h
+-- The field's next value over the value after hardware, where these nets tell that a write changes it and that a read does.
+abbrev pub next_of : SwAccess → List ℕ → List ℕ → Expression → Expression → ℕ → Expression
+next_of Rw writes reads data_in h w = pick (net writes) data_in h
+next_of Wo writes reads data_in h w = pick (net writes) data_in h
+next_of Ro writes reads data_in h w = h
+next_of Nothing writes reads data_in h w = h
+next_of Rw1s writes reads data_in h w = or h (pick (net writes) data_in (zero_bits w))
+next_of Rw1c writes reads data_in h w = and h (pick (net writes) (inv data_in) (one_bits w))
+next_of R0w1c writes reads data_in h w = and h (pick (net writes) (inv data_in) (one_bits w))
+next_of Rw0c writes reads data_in h w = and h (pick (net writes) data_in (one_bits w))
+next_of Rc writes reads data_in h w = pick (net reads) (zero_bits w) h
 
 abbrev pub hold_of : RegDesc → FieldDesc → Expression
 hold_of r f = cond (hardware_sets f.hw) (pick (net (de_net r f)) (net (d_net r f)) (net (state_net r f))) (net (state_net r f))
 
--- an entry where the test holds
-abbrev pub entry_if : Bool → Entry → List Entry
-entry_if b e = cond b (e ∷ []) []
+-- the net that tells that a write changes the fields of the register in row i
+abbrev pub write_net : ℕ → RegDesc → List ℕ
+write_net i r = cond (has_shadow r) (commit_net i) (we i)
 
 -- the assigns of the field's outputs
 abbrev pub field_views : ℕ → RegDesc → FieldDesc → List Entry
 field_views i r f =
     entry_if (has_q r f) (assign (q_net r f) (cond r.hwext (written_bits f) (net (state_net r f))))
-    ++ (entry_if (has_qe r f) (assign (qe_net r f) (net (we i)))
+    ++ (entry_if (has_qe r f) (assign (qe_net r f) (net (write_net i r)))
     ++ entry_if (has_re r f) (assign (re_net r f) (net (re i))))
+
+-- what is staged next: in a write at phase 0 what is written
+abbrev pub stage_of : ℕ → RegDesc → FieldDesc → Expression
+stage_of i r f = pick (and (net (we i)) (inv (net (phase_net i)))) (written_bits f) (net (staged_net r f))
 
 abbrev pub field_updates : ℕ → RegDesc → FieldDesc → List Entry
 field_updates i r f =
     drive (width_of f) (hold_net r f) (hold_of r f)
-    ∷ drive (width_of f) (next_net r f) (next_of f.sw i (written_bits f) (net (hold_net r f)) (width_of f)) ∷ []
+    ∷ drive (width_of f) (next_net r f) (next_of f.sw (write_net i r) (re i) (written_bits f) (net (hold_net r f)) (width_of f))
+    ∷ entry_if (has_shadow r) (drive (width_of f) (next_staged_net r f) (stage_of i r f))
 
 abbrev pub field_entries : ℕ → RegDesc → FieldDesc → List Entry
 field_entries i r f = cond r.hwext [] (field_updates i r f) ++ field_views i r f
@@ -320,8 +333,34 @@ abbrev pub fields_entries : ℕ → RegDesc → List FieldDesc → List Entry
 fields_entries i r [] = []
 fields_entries i r (f ∷ fs) = field_entries i r f ++ fields_entries i r fs
 
+-- the field's written value equals its staged one
+abbrev pub equals : RegDesc → FieldDesc → Expression
+equals r f = equal (net (staged_net r f)) (written_bits f)
+
+-- and so does that of each of these
+abbrev pub equals_and : Expression → RegDesc → List FieldDesc → Expression
+equals_and x r [] = x
+equals_and x r (f ∷ fs) = equals_and (and x (equals r f)) r fs
+
+abbrev pub all_equal : RegDesc → List FieldDesc → Expression
+all_equal r [] = lit 1 1
+all_equal r (f ∷ fs) = equals_and (equals r f) r fs
+
+-- a write at phase 1
+abbrev pub second_write : ℕ → Expression
+second_write i = and (net (we i)) (net (phase_net i))
+
+-- A write turns the phase, and a read clears it. A second write commits where it is equal, and else the update error shows.
+abbrev pub shadow_entries : ℕ → RegDesc → List Entry
+shadow_entries i r =
+    drive 1 (equal_net i) (all_equal r r.fields)
+    ∷ drive 1 (commit_net i) (and (second_write i) (net (equal_net i)))
+    ∷ drive 1 (next_phase_net i) (pick (net (we i)) (inv (net (phase_net i))) (pick (net (re i)) (lit 1 0) (net (phase_net i))))
+    ∷ assign (update_error_net r) (and (second_write i) (inv (net (equal_net i))))
+    ∷ []
+
 abbrev pub item_fields : ℕ → Item → List Entry
-item_fields i (Reg r) = fields_entries i r r.fields
+item_fields i (Reg r) = cond (has_shadow r) (shadow_entries i r) [] ++ fields_entries i r r.fields
 item_fields i item = []
 
 abbrev pub rows_fields : ℕ → List LaidRow → List Entry
@@ -346,29 +385,40 @@ parameter n x = record { name = n; value = x }
 abbrev pub connection : List ℕ → Expression → Connection
 connection n x = record { name = n; value = x }
 
-abbrev pub flop_of : RegDesc → FieldDesc → Entry
-flop_of r f =
-    inst flop_name (parameter (codes "Width") (lit 0 (width_of f)) ∷ parameter (codes "ResetValue") (lit (width_of f) f.resval) ∷ []) (flop_instance r f)
+-- the flip-flop of this width and reset value, which takes the next value from one net, and gives its value to another
+abbrev pub flop : ℕ → ℕ → List ℕ → List ℕ → List ℕ → Entry
+flop width reset instance from to =
+    inst flop_name (parameter (codes "Width") (lit 0 width) ∷ parameter (codes "ResetValue") (lit width reset) ∷ []) instance
     (connection (codes "clk_i") (net (codes "clk_i")) ∷ connection (codes "rst_ni") (net (codes "rst_ni"))
-    ∷ connection (codes "d_i") (net (next_net r f)) ∷ connection (codes "q_o") (net (state_net r f)) ∷ [])
+    ∷ connection (codes "d_i") (net from) ∷ connection (codes "q_o") (net to) ∷ [])
+
+abbrev pub flop_of : RegDesc → FieldDesc → Entry
+flop_of r f = flop (width_of f) f.resval (flop_instance r f) (next_net r f) (state_net r f)
+
+-- nothing is staged at reset, and the phase is 0
+abbrev pub staged_flop : RegDesc → FieldDesc → Entry
+staged_flop r f = flop (width_of f) 0 (staged_instance r f) (next_staged_net r f) (staged_net r f)
+
+abbrev pub phase_flop : ℕ → Entry
+phase_flop i = flop 1 0 (phase_instance i) (next_phase_net i) (phase_net i)
 
 abbrev pub flops_of : RegDesc → List FieldDesc → List Entry
 flops_of r [] = []
-flops_of r (f ∷ fs) = flop_of r f ∷ flops_of r fs
+flops_of r (f ∷ fs) = flop_of r f ∷ (entry_if (has_shadow r) (staged_flop r f) ++ flops_of r fs)
 
-abbrev pub item_flops : Item → List Entry
-item_flops (Reg r) = cond r.hwext [] (flops_of r r.fields)
-item_flops item = []
+abbrev pub item_flops : ℕ → Item → List Entry
+item_flops i (Reg r) = cond r.hwext [] (flops_of r r.fields) ++ entry_if (has_shadow r) (phase_flop i)
+item_flops i item = []
 
-abbrev pub rows_flops : List LaidRow → List Entry
-rows_flops [] = []
-rows_flops (row ∷ rows) = item_flops row.item ++ rows_flops rows
+abbrev pub rows_flops : ℕ → List LaidRow → List Entry
+rows_flops i [] = []
+rows_flops i (row ∷ rows) = item_flops i row.item ++ rows_flops (i + 1) rows
 
 -- ---- the whole
 
 abbrev pub register_entries : LaidFace → List Entry
 register_entries face =
-    rows_states face.rows ++ (rows_entries face.rows 0 all_ones face.rows ++ (answer_entries face.rows ++ (rows_fields 0 face.rows ++ (rows_windows 0 face.rows ++ rows_flops face.rows))))
+    rows_states 0 face.rows ++ (rows_entries face.rows 0 all_ones face.rows ++ (answer_entries face.rows ++ (rows_fields 0 face.rows ++ (rows_windows 0 face.rows ++ rows_flops 0 face.rows))))
 
 -- the register module of this name
 unfoldable pub register_module : List ℕ → LaidFace → Module

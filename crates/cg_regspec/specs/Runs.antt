@@ -9,7 +9,7 @@ use Rattle.cg_desc.specs.BlockRun.{Clock, BlockRun}
 use Rattle.cg_desc.specs.Laid.{IsLaid}
 use Rattle.cg_desc.specs.declared.block.LaidFace.{LaidFace}
 use Rattle.cg_regspec.specs.NetNames.{reg_we, reg_re, reg_addr, reg_wdata, reg_be}
-use Rattle.cg_regspec.specs.Meaning.{Carries, hardware_in, fields_in, outcome_in, FieldsAreReset, RegisterMeans}
+use Rattle.cg_regspec.specs.Meaning.{Carries, hardware_in, state_in, outcome_in, StateIsReset, RegisterMeans}
 
 -- the inputs of a clock, and the access that they carry
 pub record ModuleClock : Type 0 where
@@ -29,17 +29,17 @@ clock_in c = record { access = c.access; hardware = hardware_in c.inputs }
 abbrev pub outcome_of : Clocked → Outcome
 outcome_of c = outcome_in c.nets c.after
 
--- Over these clocks the module has a run from these states, and each such run is a run of the block from the fields that the states hold.
+-- Over these clocks the module has a run from these states, and each such run is a run of the block from the state that the states hold.
 pub record RunsAsBlock (m : Module) (face : LaidFace) (state : Values) (clocks : List ModuleClock) : Type 0 where
   pub exists : (outs : List Clocked) × ModuleRun m state (map (λ c. c.inputs) clocks) outs
-  pub all : (outs : List Clocked) → ModuleRun m state (map (λ c. c.inputs) clocks) outs → BlockRun face (fields_in state) (map clock_in clocks) (map outcome_of outs)
+  pub all : (outs : List Clocked) → ModuleRun m state (map (λ c. c.inputs) clocks) outs → BlockRun face (state_in state) (map clock_in clocks) (map outcome_of outs)
 
 -- What acts as the register block of a laid interface runs as it from reset, over every list of clocks. Its states at reset, which
--- exist, are the fields' reset values.
+-- exist, are the fields' reset values with nothing staged.
 abbrev pub RunsAreTheBlocks : Type 0
 RunsAreTheBlocks =
     (name : List ℕ) (m : Module) (face : LaidFace) → RegisterMeans name m face → IsLaid face → (state : Values) → IsReset m state
-    → (clocks : List ModuleClock) → AllOf (IsClockOf m) clocks → FieldsAreReset face state × RunsAsBlock m face state clocks
+    → (clocks : List ModuleClock) → AllOf (IsClockOf m) clocks → StateIsReset face state × RunsAsBlock m face state clocks
 
 -- ---- no access is left out
 

@@ -1,7 +1,7 @@
 //! Which ports a field has, and what its kinds have to do with them.
 
 ghost use Rattle.std.specs.Prelude.{◌≡◌};
-ghost use Rattle.cg_regspec.specs.RegisterModule.{width_of, is_in_word, takes_data, hardware_gets, hardware_sets, has_q, has_qe, has_re, has_d, has_de};
+ghost use Rattle.cg_regspec.specs.RegisterModule.{width_of, is_in_word, takes_data, hardware_gets, hardware_sets, has_q, has_qe, has_re, has_d, has_de, has_shadow};
 
 use cg_desc::{FieldDesc, HwAccess, RegDesc, SwAccess};
 
@@ -103,4 +103,11 @@ pub fn has_de(register: &RegDesc, field: &FieldDesc) -> bool
     ensures { result ≡ has_de register.now field.now }
 {
     !register.hwext && hardware_sets(field.hw)
+}
+
+/// Whether the register has a phase, and its fields staged values.
+pub fn has_shadow(register: &RegDesc) -> bool
+    ensures { result ≡ has_shadow register.now }
+{
+    !register.hwext && register.shadowed
 }

@@ -3,30 +3,24 @@
 ghost use Rattle.std.specs.Prelude.{◌≡◌, ◌<◌, ◌≤◌, ◌++◌, IfOk, OnOk, map, cond};
 ghost use Rattle.cg_svspec.specs.Tree.{net, and, or, pick, assign};
 ghost use Rattle.cg_sv.specs.Views.{expression_of, entry_of};
-ghost use Rattle.cg_regspec.specs.NetNames.{we, re, state_net};
+ghost use Rattle.cg_desc.specs.declared.block.Item.TheVariants.{Reg};
+ghost use Rattle.cg_regspec.specs.NetNames.{state_net};
 ghost use Rattle.cg_regspec.specs.RegisterModule.{width_of, written_bits, zero_bits, one_bits, next_of, hold_of, entry_if, field_views, field_updates, field_entries, fields_entries, item_fields, rows_fields};
 ghost use Rattle.cg_svreg.specs.Narrow.{FieldsAreNarrow, ItemIsNarrow, RowsAreNarrow};
 
-use crate::access::{hardware_sets, has_q, has_qe, has_re, width_of};
-use crate::nets::{self, field_net, slice};
+use crate::access::{hardware_sets, has_q, has_qe, has_re, has_shadow, width_of};
+use crate::nets::{self, field_net, row_net, written_bits};
+use crate::shadows::{add_shadow, add_staged, write_net};
 use cg_base::{List, Memory, mask};
 use cg_desc::{FieldDesc, Item, LaidRow, RegDesc, SwAccess};
 use cg_sv::{Entry, Expr, make};
 use std::alloc::Global;
 
-/// The field's bits of the write data.
-fn written_bits(alloc: Global, field: &FieldDesc) -> Result<Expr, Memory>
-    ensures { IfOk result (λ x. expression_of x ≡ written_bits field.now) }
+/// The written bits where this net tells of a write, and else what changes nothing.
+fn where_written(alloc: Global, writes: &str, written: Expr, kept: Expr) -> Result<Expr, Memory>
+    ensures { IfOk result (λ x. expression_of x ≡ pick (net writes.now) (expression_of written) (expression_of kept)) }
 {
-    let bits = slice(alloc, "reg_wdata", 32, field.msb, field.lsb)?;
-    Ok(bits)
-}
-
-/// The written bits where the row takes a write, and else what changes nothing.
-fn where_written(alloc: Global, number: usize, written: Expr, kept: Expr) -> Result<Expr, Memory>
-    ensures { IfOk result (λ x. expression_of x ≡ pick (net (we number)) (expression_of written) (expression_of kept)) }
-{
-    let write = nets::row(alloc, "we_", number)?;
+    let write = make::net(alloc, writes)?;
     let bits = make::pick(alloc, write, written, kept)?;
     Ok(bits)
 }
@@ -34,76 +28,77 @@ fn where_written(alloc: Global, number: usize, written: Expr, kept: Expr) -> Res
 /// The value with the bits set that are written as 1.
 fn set_by_ones(
     alloc: Global,
-    number: usize,
+    writes: &str,
     written: Expr,
     hold: Expr,
     width: u32,
 ) -> Result<Expr, Memory>
-    ensures { IfOk result (λ x. expression_of x ≡ or (expression_of hold) (pick (net (we number)) (expression_of written) (zero_bits width))) }
+    ensures { IfOk result (λ x. expression_of x ≡ or (expression_of hold) (pick (net writes.now) (expression_of written) (zero_bits width))) }
 {
-    let ones = where_written(alloc, number, written, make::lit(width, 0))?;
+    let ones = where_written(alloc, writes, written, make::lit(width, 0))?;
     let next = make::or(alloc, hold, ones)?;
     Ok(next)
 }
 
-/// The value with those bits alone that these keep, where the row takes a write.
+/// The value with those bits alone that these keep, where the net tells of a write.
 fn cleared_by(
     alloc: Global,
-    number: usize,
+    writes: &str,
     kept: Expr,
     hold: Expr,
     width: u32,
 ) -> Result<Expr, Memory>
     requires { width ≤ 64 }
-    ensures { IfOk result (λ x. expression_of x ≡ and (expression_of hold) (pick (net (we number)) (expression_of kept) (one_bits width))) }
+    ensures { IfOk result (λ x. expression_of x ≡ and (expression_of hold) (pick (net writes.now) (expression_of kept) (one_bits width))) }
 {
-    let kept = where_written(alloc, number, kept, make::lit(width, mask(width)))?;
+    let kept = where_written(alloc, writes, kept, make::lit(width, mask(width)))?;
     let next = make::and(alloc, hold, kept)?;
     Ok(next)
 }
 
-/// Zeros where the row takes a read, and else the value.
-fn cleared_by_read(alloc: Global, number: usize, hold: Expr, width: u32) -> Result<Expr, Memory>
-    ensures { IfOk result (λ x. expression_of x ≡ pick (net (re number)) (zero_bits width) (expression_of hold)) }
+/// Zeros where this net tells of a read, and else the value.
+fn cleared_by_read(alloc: Global, reads: &str, hold: Expr, width: u32) -> Result<Expr, Memory>
+    ensures { IfOk result (λ x. expression_of x ≡ pick (net reads.now) (zero_bits width) (expression_of hold)) }
 {
-    let read = nets::row(alloc, "re_", number)?;
+    let read = make::net(alloc, reads)?;
     let next = make::pick(alloc, read, make::lit(width, 0), hold)?;
     Ok(next)
 }
 
-/// The next value of a field in row `number`, over the value after hardware.
+/// The next value of a field over the value after hardware, where these nets tell of a write and of a read.
 fn next_of(
     alloc: Global,
     kind: SwAccess,
-    number: usize,
+    writes: &str,
+    reads: &str,
     written: Expr,
     hold: Expr,
     width: u32,
 ) -> Result<Expr, Memory>
     requires { width ≤ 64 }
-    ensures { IfOk result (λ x. expression_of x ≡ next_of kind number (expression_of written) (expression_of hold) width) }
+    ensures { IfOk result (λ x. expression_of x ≡ next_of kind writes.now reads.now (expression_of written) (expression_of hold) width) }
 {
     match kind {
         SwAccess::Rw | SwAccess::Wo => {
-            let next = where_written(alloc, number, written, hold)?;
+            let next = where_written(alloc, writes, written, hold)?;
             Ok(next)
         }
         SwAccess::Ro | SwAccess::Nothing => Ok(hold),
         SwAccess::Rw1s => {
-            let next = set_by_ones(alloc, number, written, hold, width)?;
+            let next = set_by_ones(alloc, writes, written, hold, width)?;
             Ok(next)
         }
         SwAccess::Rw1c | SwAccess::R0w1c => {
             let kept = make::not(alloc, written)?;
-            let next = cleared_by(alloc, number, kept, hold, width)?;
+            let next = cleared_by(alloc, writes, kept, hold, width)?;
             Ok(next)
         }
         SwAccess::Rw0c => {
-            let next = cleared_by(alloc, number, written, hold, width)?;
+            let next = cleared_by(alloc, writes, written, hold, width)?;
             Ok(next)
         }
         SwAccess::Rc => {
-            let next = cleared_by_read(alloc, number, hold, width)?;
+            let next = cleared_by_read(alloc, reads, hold, width)?;
             Ok(next)
         }
     }
@@ -123,7 +118,7 @@ fn hold_of(alloc: Global, register: &RegDesc, field: &FieldDesc) -> Result<Expr,
     Ok(hold)
 }
 
-/// Adds the value of a stored field after hardware, and after software.
+/// Adds the value of a stored field after hardware, and after software, and what is staged next.
 fn add_updates(
     alloc: Global,
     entries: &mut List<Entry>,
@@ -140,9 +135,20 @@ fn add_updates(
     make::drive(alloc, entries, width, hold.as_str(), value)?;
     let written = written_bits(alloc, field)?;
     let held = make::net(alloc, hold.as_str())?;
-    let value = next_of(alloc, field.sw, number, written, held, width)?;
+    let writes = write_net(alloc, number, register)?;
+    let reads = row_net(alloc, "re_", number)?;
+    let value = next_of(
+        alloc,
+        field.sw,
+        writes.as_str(),
+        reads.as_str(),
+        written,
+        held,
+        width,
+    )?;
     let next = field_net(alloc, register, field, "_n")?;
     make::drive(alloc, entries, width, next.as_str(), value)?;
+    add_staged(alloc, entries, number, register, field)?;
     Ok(())
 }
 
@@ -188,7 +194,8 @@ fn add_views(
     let value = seen_value(alloc, register, field)?;
     add_assign_if(alloc, entries, has_q(register, field), q.as_str(), value)?;
     let qe = field_net(alloc, register, field, "_qe")?;
-    let write = nets::row(alloc, "we_", number)?;
+    let writes = write_net(alloc, number, register)?;
+    let write = make::net(alloc, writes.as_str())?;
     add_assign_if(alloc, entries, has_qe(register, field), qe.as_str(), write)?;
     let re = field_net(alloc, register, field, "_re")?;
     let read = nets::row(alloc, "re_", number)?;
@@ -231,6 +238,24 @@ fn add_fields(
     Ok(())
 }
 
+/// Adds the entries of a register's fields, behind those of its shadow.
+fn add_register(
+    alloc: Global,
+    entries: &mut List<Entry>,
+    number: usize,
+    register: &RegDesc,
+) -> Result<(), Memory>
+    requires { FieldsAreNarrow register.now.fields }
+    ensures { OnOk result (map entry_of entries.new ≡ map entry_of entries.old ++ item_fields number (Reg register.now)) }
+{
+    if has_shadow(register) {
+        add_shadow(alloc, entries, number, register)?;
+    }
+    let fields = register.fields.as_slice();
+    add_fields(alloc, entries, number, register, fields)?;
+    Ok(())
+}
+
 fn add_item_fields(
     alloc: Global,
     entries: &mut List<Entry>,
@@ -242,8 +267,7 @@ fn add_item_fields(
 {
     match item {
         Item::Reg(register) => {
-            let fields = register.fields.as_slice();
-            add_fields(alloc, entries, number, register, fields)?;
+            add_register(alloc, entries, number, register)?;
             Ok(())
         }
         Item::Window(_) | Item::SkipTo { .. } | Item::Reserved { .. } => Ok(()),

@@ -22,6 +22,7 @@ mod parts;
 mod ports;
 mod refusals;
 mod rows;
+mod shadows;
 mod states;
 mod windows;
 mod words;

@@ -3,9 +3,9 @@
 ghost use Rattle.std.specs.Prelude.{◌≡◌, ◌++◌, IfOk};
 ghost use Rattle.std.specs.Fmt.{decimal};
 ghost use Rattle.cg_svspec.specs.Tree.{net};
-ghost use Rattle.cg_regspec.specs.RegisterModule.{slice};
+ghost use Rattle.cg_regspec.specs.RegisterModule.{slice, written_bits};
 ghost use Rattle.cg_sv.specs.Views.{expression_of};
-ghost use Rattle.cg_regspec.specs.NetNames.{base, flop_instance, window_base};
+ghost use Rattle.cg_regspec.specs.NetNames.{base, next_phase_net, flop_instance, staged_instance, update_error_net, window_base};
 
 use cg_base::{Memory, Text};
 use cg_desc::{FieldDesc, RegDesc, WindowDesc};
@@ -42,6 +42,37 @@ pub fn flop_instance(alloc: Global, register: &RegDesc, field: &FieldDesc) -> Re
 {
     let net = field_net(alloc, register, field, "")?;
     let name = format!(in alloc; "u_{net}")?;
+    Ok(Text::from_string(name))
+}
+
+/// The name of the flip-flop that stores a field's staged value.
+pub fn staged_instance(
+    alloc: Global,
+    register: &RegDesc,
+    field: &FieldDesc,
+) -> Result<Text, Memory>
+    ensures { IfOk result (λ name. name ≡ staged_instance register.now field.now) }
+{
+    let net = field_net(alloc, register, field, "_t")?;
+    let name = format!(in alloc; "u_{net}")?;
+    Ok(Text::from_string(name))
+}
+
+/// The name of a row's next phase, as `ph_12_n`.
+pub fn next_phase_net(alloc: Global, number: usize) -> Result<Text, Memory>
+    ensures { IfOk result (λ name. name ≡ next_phase_net number) }
+{
+    let name = format!(in alloc; "ph_{number}_n")?;
+    Ok(Text::from_string(name))
+}
+
+/// The name of a shadowed register's port, as `upd_ctrl_err`.
+#[tactic(auto, unfolding(cg_regspec::specs::NetNames::update_error_net))]
+pub fn update_error_net(alloc: Global, register: &RegDesc) -> Result<Text, Memory>
+    ensures { IfOk result (λ name. name ≡ update_error_net register.now) }
+{
+    let register = register.name.as_str().to_ascii_lowercase(alloc)?;
+    let name = format!(in alloc; "upd_{register}_err")?;
     Ok(Text::from_string(name))
 }
 
@@ -89,4 +120,12 @@ pub fn slice(alloc: Global, name: &str, width: u32, msb: u8, lsb: u8) -> Result<
     }
     let cut = make::cut(alloc, name, msb, lsb)?;
     Ok(cut)
+}
+
+/// The field's bits of the write data.
+pub fn written_bits(alloc: Global, field: &FieldDesc) -> Result<Expr, Memory>
+    ensures { IfOk result (λ x. expression_of x ≡ written_bits field.now) }
+{
+    let bits = slice(alloc, "reg_wdata", 32, field.msb, field.lsb)?;
+    Ok(bits)
 }

@@ -2,11 +2,12 @@
 
 ghost use Rattle.std.specs.Prelude.{◌≡◌, ◌++◌, OnOk, map};
 ghost use Rattle.cg_svspec.specs.Register.{input_port, output_port, access_ports};
+ghost use Rattle.cg_desc.specs.declared.block.Item.TheVariants.{Reg};
 ghost use Rattle.cg_sv.specs.Views.{port_of};
 ghost use Rattle.cg_regspec.specs.RegisterModule.{width_of, port_if, field_ports, fields_ports, window_ports, item_ports, rows_ports};
 
-use crate::access::{has_d, has_de, has_q, has_qe, has_re, width_of};
-use crate::nets::{field_net, window_net};
+use crate::access::{has_d, has_de, has_q, has_qe, has_re, has_shadow, width_of};
+use crate::nets::{field_net, update_error_net, window_net};
 use cg_base::{List, Memory};
 use cg_desc::{FieldDesc, Item, LaidRow, RegDesc, WindowDesc};
 use cg_sv::{Port, make};
@@ -121,12 +122,26 @@ fn add_window_ports(
     Ok(())
 }
 
+/// Adds the ports of a register: those of its fields, and the update error of a shadowed one.
+fn add_register_ports(
+    alloc: Global,
+    ports: &mut List<Port>,
+    register: &RegDesc,
+) -> Result<(), Memory>
+    ensures { OnOk result (map port_of ports.new ≡ map port_of ports.old ++ item_ports (Reg register.now)) }
+{
+    add_fields_ports(alloc, ports, register, register.fields.as_slice())?;
+    let error = update_error_net(alloc, register)?;
+    add_output_if(alloc, ports, has_shadow(register), 1, error.as_str())?;
+    Ok(())
+}
+
 fn add_item_ports(alloc: Global, ports: &mut List<Port>, item: &Item) -> Result<(), Memory>
     ensures { OnOk result (map port_of ports.new ≡ map port_of ports.old ++ item_ports item.now) }
 {
     match item {
         Item::Reg(register) => {
-            add_fields_ports(alloc, ports, register, register.fields.as_slice())?;
+            add_register_ports(alloc, ports, register)?;
             Ok(())
         }
         Item::Window(window) => {
