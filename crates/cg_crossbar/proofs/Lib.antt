@@ -1,3 +1,4 @@
 pub mod FirstOnes
 pub mod Once
 pub mod Ranges
+pub mod Meanings

@@ -6,7 +6,7 @@ use Rattle.cg_desc.specs.declared.crossbar.NodeRanges.{NodeRanges}
 use Rattle.cg_desc.specs.declared.crossbar.XbarDesc.{XbarDesc}
 use Rattle.cg_finding.specs.Finding.{Finding}
 use Rattle.cg_files.specs.Files.{File}
-use Rattle.cg_crossbar.specs.Outputs.{clash_of, crossbar_output}
+use Rattle.cg_crossbar.specs.Outputs.{clash_of, crossbar_output, written_ranges}
 use Rattle.cg_crossbar.specs.Breaks.{BreaksAlone, IsGoodFile}
 use Rattle.cg_crossbar.specs.Meaning.{CrossbarTextMeans}
 
@@ -14,6 +14,10 @@ use Rattle.cg_crossbar.specs.Meaning.{CrossbarTextMeans}
 abbrev pub CrossbarOutputMeans : Type 0
 CrossbarOutputMeans =
     (x : XbarDesc) (ranges : List NodeRanges) → IsValidCrossbar x → AreRangesOf x ranges → clash_of x ranges ≡ None → CrossbarTextMeans x ranges (crossbar_output x ranges).bytes
+
+-- what is written of a file of a crossbar that breaks nothing has its meaning
+abbrev pub CrossbarFileMeans : Type 0
+CrossbarFileMeans = (file : File) (x : XbarDesc) → IsGoodFile file x → CrossbarTextMeans x (written_ranges x) (crossbar_output x (written_ranges x)).bytes
 
 -- a file of a crossbar that breaks nothing breaks nothing
 abbrev pub GoodFileBreaksNothing : Type 0

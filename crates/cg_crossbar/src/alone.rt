@@ -84,8 +84,5 @@ pub fn read_alone(
         Ok(top) => top,
         Err(Memory) => return Err(DescFault::Memory),
     };
-    match top.xbars.as_slice() {
-        [xbar] => output_of(alloc, file, &top, xbar),
-        _ => Err(DescFault::Memory),
-    }
+    output_of(alloc, file, &top, &top.xbars.as_slice()[0])
 }

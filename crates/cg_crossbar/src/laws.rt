@@ -1,11 +1,12 @@
-ghost use Rattle.cg_crossbar.specs.Laws.{CrossbarOutputMeans, GoodFileBreaksNothing, GoodFileIsOne};
+ghost use Rattle.cg_crossbar.specs.Laws.{CrossbarOutputMeans, CrossbarFileMeans, GoodFileBreaksNothing, GoodFileIsOne};
 
 use cg_busspec::crossbar_module_means;
 use cg_svspec::printed_text_stands;
 
-/// What is written of a crossbar that breaks nothing has its meaning.
+/// What is written of a crossbar has its meaning: of one whose ranges fit, and of a file of one that breaks nothing.
 pub fn crossbar_output_means()
-    ensures { CrossbarOutputMeans }
+    ensures ranges { CrossbarOutputMeans }
+    ensures mean { CrossbarFileMeans }
 {
     printed_text_stands();
     crossbar_module_means();

@@ -1,0 +1,1 @@
+use Rattle.cg_crossbar.proofs.alone.read_alone.Goals as goal
