@@ -19,6 +19,12 @@ use std::thread::Threads;
 
 fn told<R: Files + Threads + Sync>(rt: &R, alloc: Global) -> Result<String, Memory> {
     let mut tables = Tables::new(rt, alloc);
+    tables.tell("crossbar_runs.txt", |alloc, given| {
+        runs::answer(rt, alloc, given)
+    })?;
+    tables.tell("crossbar_texts.txt", |alloc, given| {
+        texts::of_crossbar(rt, alloc, given)
+    })?;
     tables.tell("faulty_entries.txt", |alloc, given| {
         first_faults::line_of_entries(rt, alloc, given)
     })?;

@@ -37,3 +37,18 @@ pub fn answer<R: Threads + Sync>(rt: &R, alloc: Global, given: &str) -> Result<S
     }
     lines_with(alloc, text.as_str(), piece)
 }
+
+/// A row gives in its first line a file's name, as `out/xbar_main.sv`, and then the description of a crossbar.
+pub fn of_crossbar<R: Threads + Sync>(
+    rt: &R,
+    alloc: Global,
+    given: &str,
+) -> Result<String, Memory> {
+    let (name, description) = given.split_once('\n').unwrap_or((given, ""));
+    let words = "tlgen -t x.hjson -o out";
+    let ran = ran_over(rt, alloc, words, "x.hjson", description.as_bytes())?;
+    match ran.store.file(name) {
+        Some(bytes) => String::from_utf8_lossy(alloc, bytes),
+        None => spelled(alloc, &ran),
+    }
+}
