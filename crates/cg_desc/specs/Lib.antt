@@ -19,3 +19,4 @@ pub mod Reach
 pub mod AddressMap
 pub mod Faults
 pub mod FaultText
+pub mod FoundBase
