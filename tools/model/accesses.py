@@ -4,8 +4,10 @@ import random
 from model.layout import Interface, Register, Row
 from model.step import Clock, Input, hardware_ports, target
 
-# write, read, address, strobes
-Access = tuple[int, int, int, int]
+# write, read, address, strobes, and the data where they are not any
+Access = tuple[int, int, int, int, int | None]
+# accesses that follow one another
+Sequence = list[Access]
 WORD = (1 << 32) - 1
 FEWEST_CLOCKS = 150
 CLOCKS = 400
@@ -34,21 +36,44 @@ def unmapped_addresses(interface: Interface, chance: random.Random) -> list[int]
     return [address for address in addresses if target(interface, address) is None]
 
 
-def accesses(interface: Interface, chance: random.Random) -> list[Access]:
-    """All accesses that the interface is to be tried with, as (write, read, address, strobes), in a random order."""
-    made = []
+def update_sequences(row: Register, chance: random.Random) -> list[Sequence]:
+    """Pairs of writes at a shadowed register: equal ones and ones that differ in one field, some with an access between."""
+    sequences = []
+    for _ in range(6):
+        data = data_of(chance, 32)
+        field = chance.choice(row.fields)
+        other = data ^ (1 << chance.randint(field.low, field.high))
+        first, second = (1, 0, row.offset, 0b1111, data), (1, 0, row.offset, 0b1111, chance.choice([data, other]))
+        reading, missing = (0, 1, row.offset, 0b1111, None), (1, 0, row.offset, 0b0000, data)
+        between = chance.choice([[], [], [], [reading], [missing], [(0, 0, row.offset, 0b1111, data)]])
+        sequences.append([first, *between, second, *chance.choice([[], [first, second], [second]])])
+    return sequences
+
+
+def sequences_of(interface: Interface, chance: random.Random) -> list[Sequence]:
+    """All accesses that the interface is to be tried with; those of a sequence are to follow one another."""
+    made: list[Access] = []
+    updates: list[Sequence] = []
     for row in interface.rows:
         addresses = row_addresses(row, chance)
-        made += [(1, 0, address, strobes) for address in addresses[:1] for strobes in range(16)]
-        made += [(1, 0, address, 0b1111) for address in addresses]
-        made += [(0, 1, address, strobes) for address in addresses for strobes in (0b1111, chance.randrange(16))]
-        made.append((0, 0, addresses[0], 0b1111))
+        made += [(1, 0, address, strobes, None) for address in addresses[:1] for strobes in range(16)]
+        made += [(1, 0, address, 0b1111, None) for address in addresses]
+        made += [(0, 1, address, strobes, None) for address in addresses for strobes in (0b1111, chance.randrange(16))]
+        made.append((0, 0, addresses[0], 0b1111, None))
         if isinstance(row, Register):
-            made += [(1, 0, row.offset, 0b1111), (0, 1, row.offset, 0b1111)] * 3
+            made += [(1, 0, row.offset, 0b1111, None), (0, 1, row.offset, 0b1111, None)] * 3
+            updates += update_sequences(row, chance) if row.shadowed else []
     for address in unmapped_addresses(interface, chance):
-        made += [(1, 0, address, chance.choice([0b1111, chance.randrange(16)])), (0, 1, address, 0b1111)]
-    chance.shuffle(made)
-    return made
+        strobes = chance.choice([0b1111, chance.randrange(16)])
+        made += [(1, 0, address, strobes, None), (0, 1, address, 0b1111, None)]
+    return [[access] for access in made] + updates
+
+
+def accesses(interface: Interface, chance: random.Random) -> list[Access]:
+    """All accesses that the interface is to be tried with, in a random order of the sequences."""
+    sequences = sequences_of(interface, chance)
+    chance.shuffle(sequences)
+    return [access for sequence in sequences for access in sequence]
 
 
 def clocks(interface: Interface, chance: random.Random) -> list[Clock]:
@@ -60,11 +85,11 @@ def clocks(interface: Interface, chance: random.Random) -> list[Clock]:
     while len(tried) < FEWEST_CLOCKS:
         tried += accesses(interface, chance)
     made = []
-    for number, (write, read, address, strobes) in enumerate(tried[:most]):
+    for number, (write, read, address, strobes, data) in enumerate(tried[:most]):
         no_reset = int(number % CLOCKS_BETWEEN_RESETS != 0)
         byte_address = address | chance.choice([0, 0, 1, 2, 3])
-        data = data_of(chance, 32)
-        made.append(Clock(no_reset, write, read, byte_address, data, strobes, hardware_inputs(inputs, chance)))
+        written = data_of(chance, 32) if data is None else data
+        made.append(Clock(no_reset, write, read, byte_address, written, strobes, hardware_inputs(inputs, chance)))
     made.append(Clock(hardware={name: 0 for _, name in inputs}))
     return made
 

@@ -106,6 +106,15 @@ class Maker:
             **self.maybe(0.3, resval=self.register_reset(fields)),
             **self.maybe(0.2, desc="a register: [one, two] \u00e9")}
 
+    def shadowed_keys(self, fields: list[Object]) -> Object:
+        """The keys of a shadowed register or multireg: software writes its fields plainly, and hardware at most sees them."""
+        seen = [field | {"swaccess": "rw", "hwaccess": self.chance.choice(["hro", "hro", "none"])} for field in fields]
+        return self.register_keys(seen) | {"hwext": False, "shadowed": True}
+
+    def keys(self, fields: list[Object]) -> Object:
+        """The keys that a register and a multireg share, now and then those of a shadowed one."""
+        return self.shadowed_keys(fields) if self.chance.random() < 0.3 else self.register_keys(fields)
+
     def register_reset(self, fields: list[Object]) -> int | bool:
         """A register's reset value, with no bit outside its fields."""
         mask = 0
@@ -119,7 +128,8 @@ class Maker:
         bit = self.chance.choice([0, 0, 5, 31])
         fields = [{"bits": self.bits(bit, bit), **self.maybe(0.8, resval=1)}]
         return {"name": self.fresh(), "swaccess": self.chance.choice(sorted(READABLE)),
-                "hwaccess": self.chance.choice(HARDWARE), "fields": fields, **keys}
+                "hwaccess": self.chance.choice(HARDWARE), "fields": fields,
+                **self.maybe(0.2, shadowed=True, swaccess="rw", hwaccess="hro"), **keys}
 
     def gated(self, written: Object) -> tuple[Object, Object]:
         """A gate, and the register or multireg with it."""
@@ -128,7 +138,7 @@ class Maker:
 
     def register(self) -> list[Object]:
         """A register, with a gate or without one, and the entry of its gate; a register may be its own gate."""
-        written = self.register_keys(self.fields(self.chance.choice([1, 1, 2, 4, 12])))
+        written = self.keys(self.fields(self.chance.choice([1, 1, 2, 4, 12])))
         kind = self.chance.random()
         if kind < 0.2:
             return list(self.gated(written))
@@ -142,7 +152,7 @@ class Maker:
         gates = [row.name for row in rows if isinstance(row, Register) and row.may_gate]
         if not gates:
             return []
-        return [self.register_keys(self.fields(2)) | {"regwen": self.cased(self.chance.choice(gates))}]
+        return [self.keys(self.fields(2)) | {"regwen": self.cased(self.chance.choice(gates))}]
 
     def multireg(self) -> list[Object]:
         """A multireg, with one gate, with a gate for each copy, or with none; and the entries of its gates."""
@@ -150,7 +160,7 @@ class Maker:
         count = chance.choice([1, 2, 3, 5, 9, 33, 40])
         fields = self.fields(chance.choice([1, 1, 1, 2, 4]))
         kind = chance.choice(["no gate", "no gate", "one gate", "several gates"])
-        written = self.register_keys(fields) | {"count": self.amount(count), "cname": "C"}
+        written = self.keys(fields) | {"count": self.amount(count), "cname": "C"}
         written |= self.maybe(0.3, compact=len(fields) == 1 and kind != "several gates" and chance.random() < 0.5)
         if kind == "no gate":
             return [{"multireg": written | ({} if "compact" in written else self.maybe(0.2, regwen_multi=True))}]

@@ -77,4 +77,15 @@ UART: Object = {
     ],
 }
 
-EXAMPLES: dict[str, Object] = {"bridge": BRIDGE, "gpio": GPIO, "intc": INTC, "timer": TIMER, "uart": UART}
+VAULT: Object = {
+    "name": "vault", "clocking": CLOCKING, "bus_interfaces": DEVICE,
+    "registers": [
+        {"name": "OPEN", "swaccess": "rw", "hwaccess": "none", "shadowed": True, "fields": [{"bits": 0, "resval": 1}]},
+        {"name": "KEY", "swaccess": "rw", "hwqe": True, "shadowed": True, "regwen": "OPEN", "fields": [
+            {"bits": "15:0", "name": "ID"}, {"bits": "19:16", "name": "MODE", "resval": 3}]},
+        {"multireg": {"name": "SHARE", "count": 2, "swaccess": "rw", "shadowed": True, "fields": [{"bits": "31:0"}]}},
+    ],
+}
+
+EXAMPLES: dict[str, Object] = {
+    "bridge": BRIDGE, "gpio": GPIO, "intc": INTC, "timer": TIMER, "uart": UART, "vault": VAULT}

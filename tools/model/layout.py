@@ -68,6 +68,7 @@ class Register:
     fields: list[Field]
     write_strobe: bool = False
     read_strobe: bool = False
+    shadowed: bool = False
     gate_name: str | None = None
     gate: Field | None = None
     offset: int = 0
@@ -177,8 +178,9 @@ def number(value: int | str, parameters: Parameters) -> int:
 
 
 def register(written: Object, name: str, fields: list[Field], gate_name: str | None) -> Register:
-    """A register with the strobes that its entry asks for."""
-    return Register(name, fields, written.get("hwqe", False), written.get("hwre", False), gate_name)
+    """A register with the strobes that its entry asks for; the words of a shadowed multireg are shadowed."""
+    return Register(name, fields, written.get("hwqe", False), written.get("hwre", False),
+                    written.get("shadowed", False), gate_name)
 
 
 def span(bits: int | str) -> tuple[int, int]:

@@ -6,8 +6,8 @@ import re
 import subprocess
 
 from model.layout import Interface, Register
-from model.step import (BUS_PORTS, Block, Clock, Input, Port, accepted, field_ports, hardware_ports, stored_fields,
-                        target, window_ports)
+from model.step import (BUS_PORTS, Block, Clock, Input, Port, accepted, field_ports, hardware_ports, shadowed_rows,
+                        stored_fields, target, update_ports, window_ports)
 
 # how many there are of each kind of thing that is tried
 Counts = collections.Counter[str]
@@ -102,9 +102,13 @@ def bench_of(module: str, interface: Interface) -> Bench:
         if isinstance(row, Register):
             names = outputs([port for field in row.fields for port in field_ports(row, field)])
             told += [Net(name, name, kinds[name.rsplit("_", 1)[1]]) for name in names]
+            told += [Net(name, name, "update errors") for name in outputs(update_ports(row))]
         else:
             told += [Net(name, name, "window outputs") for name in outputs(window_ports(row))]
     told += [Net(f"{field.net}_s", f"dut.{field.net}_s", "values of fields") for field in stored_fields(interface)]
+    for number, row in shadowed_rows(interface).items():
+        told += [Net(f"{field.net}_t", f"dut.{field.net}_t", "staged values") for field in row.fields]
+        told.append(Net(f"ph_{number}", f"dut.ph_{number}", "phases"))
     return Bench(module, BUS_PORTS[1:] + hardware_ports(interface), told)
 
 
@@ -139,7 +143,9 @@ def expected_values(block: Block, clock: Clock) -> dict[str, int]:
     """The nets' values that the model gives for a clock, by name; a net of which it says nothing is absent."""
     error, data = block.answer(clock)
     values = {"reg_error": error} | ({} if data is None else {"reg_rdata": data})
-    return values | block.views(clock) | {f"{field.net}_s": value for field, value in block.values.items()}
+    values |= block.views(clock) | {f"{field.net}_s": value for field, value in block.values.items()}
+    values |= {f"{field.net}_t": value for field, value in block.staged.items()}
+    return values | {f"ph_{number}": value for number, value in block.phases.items()}
 
 
 def compare_clocks(interface: Interface, bench: Bench, clocks: list[Clock], seen: list[list[str]]) -> Counts:
@@ -179,6 +185,12 @@ def account(block: Block, clock: Clock) -> Counts:
         counts[f"accesses accepted at a {'register' if isinstance(row, Register) else 'window'}"] += 1
     if isinstance(row, Register) and row.gate is not None and accepted(row, clock) and clock.reg_we:
         counts[f"accesses at {'an open' if block.values[row.gate] else 'a closed'} gate"] += 1
+    for number in block.shadowed:
+        update = block.update(number, clock)
+        if update is not None:
+            counts[f"writes at shadowed registers {update}"] += 1
+        if row is block.shadowed[number] and clock.reg_re and block.phases[number]:
+            counts["reads of shadowed registers between two writes"] += 1
     if isinstance(row, Register) and accepted(row, clock):
         for field in row.fields:
             kind = "external" if field.external else field.software

@@ -44,9 +44,15 @@ def hardware_ports(interface: Interface) -> list[Port]:
         if isinstance(row, Register):
             for field in row.fields:
                 ports += field_ports(row, field)
+            ports += update_ports(row)
         else:
             ports += window_ports(row)
     return ports
+
+
+def update_ports(row: Register) -> list[Port]:
+    """The port that shows the update error of a shadowed register; other registers have none."""
+    return [("output", 1, f"upd_{row.name.lower()}_err")] if row.shadowed else []
 
 
 def window_ports(row: Window) -> list[Port]:
@@ -93,20 +99,31 @@ def accepted(row: Row | None, clock: Clock) -> bool:
     return row.software != "ro" and (row.byte_write or clock.reg_be == 0b1111)
 
 
+def shadowed_rows(interface: Interface) -> dict[int, Register]:
+    """The shadowed registers, by the numbers of their rows."""
+    return {number: row for number, row in enumerate(interface.rows) if isinstance(row, Register) and row.shadowed}
+
+
 class Block:
-    """The values of an interface's stored fields, as they stand before a clock."""
+    """The values of an interface's stored fields, as they stand before a clock, and what shadowed registers keep: the
+    staged value of each field, and the phase, which is 1 after a first write."""
 
     def __init__(self, interface: Interface) -> None:
         """The block with each field at its reset value."""
         self.interface = interface
         self.stored = stored_fields(interface)
         self.outputs = {name for direction, _, name in hardware_ports(interface) if direction == "output"}
+        self.shadowed = shadowed_rows(interface)
         self.values: dict[Field, int] = {}
+        self.staged: dict[Field, int] = {}
+        self.phases: dict[int, int] = {}
         self.reset()
 
     def reset(self) -> None:
-        """Each field has its reset value."""
+        """Each field has its reset value, nothing is staged, and each phase is 0."""
         self.values = {field: field.reset for field in self.stored}
+        self.staged = {field: 0 for row in self.shadowed.values() for field in row.fields}
+        self.phases = {number: 0 for number in self.shadowed}
 
     def effect(self, clock: Clock) -> tuple[Row | None, Row | None]:
         """The row that is written with effect, and the row that is read, each None where there is none."""
@@ -117,6 +134,25 @@ class Block:
             return None, row
         is_open = not isinstance(row, Register) or row.gate is None or self.values[row.gate] != 0
         return row if is_open else None, None
+
+    def is_equal(self, row: Register, clock: Clock) -> bool:
+        """Whether every field's written value is its staged one."""
+        return all((clock.reg_wdata >> field.low) & field.ones == self.staged[field] for field in row.fields)
+
+    def update(self, number: int, clock: Clock) -> str | None:
+        """What a write with effect at the shadowed register of this row does: it stages, commits or fails."""
+        row = self.shadowed[number]
+        if self.effect(clock)[0] is not row:
+            return None
+        if not self.phases[number]:
+            return "stages"
+        return "commits" if self.is_equal(row, clock) else "fails"
+
+    def changes_fields(self, number: int, clock: Clock) -> bool:
+        """Whether a write changes the fields of the register of this row."""
+        if number in self.shadowed:
+            return self.update(number, clock) == "commits"
+        return self.effect(clock)[0] is self.interface.rows[number]
 
     def word(self, row: Row, clock: Clock) -> int:
         """What a read of the row shows."""
@@ -140,9 +176,12 @@ class Block:
         """What hardware sees in the clock, by the nets' names."""
         written, read = self.effect(clock)
         seen = {}
-        for row in self.interface.rows:
+        for number, row in enumerate(self.interface.rows):
             strobes = int(row is written), int(row is read)
             if isinstance(row, Register):
+                if number in self.shadowed:
+                    seen[f"upd_{row.name.lower()}_err"] = int(self.update(number, clock) == "fails")
+                strobes = int(self.changes_fields(number, clock)), int(row is read)
                 for field in row.fields:
                     value = (clock.reg_wdata >> field.low) & field.ones if field.external else self.values[field]
                     seen.update(zip([f"{field.net}_q", f"{field.net}_qe", f"{field.net}_re"], [value, *strobes]))
@@ -156,12 +195,19 @@ class Block:
         if not clock.rst_ni:
             self.reset()
             return
-        written, read = self.effect(clock)
+        read = self.effect(clock)[1]
         following = {}
-        for row in self.interface.rows:
+        for number, row in enumerate(self.interface.rows):
             for field in row.fields if isinstance(row, Register) else []:
                 if not field.external:
-                    following[field] = self.next_value(field, row is written, row is read, clock)
+                    following[field] = self.next_value(field, self.changes_fields(number, clock), row is read, clock)
+        updates = {number: self.update(number, clock) for number in self.shadowed}
+        for number, row in self.shadowed.items():
+            if updates[number] == "stages":
+                self.staged |= {field: (clock.reg_wdata >> field.low) & field.ones for field in row.fields}
+                self.phases[number] = 1
+            elif updates[number] is not None or row is read:
+                self.phases[number] = 0
         self.values = following
 
     def next_value(self, field: Field, written: bool, read: bool, clock: Clock) -> int:

@@ -1,4 +1,5 @@
 -- Cases of definitions, computed.
 pub mod Block
 pub mod GatesAndWindows
+pub mod Shadow
 pub mod Values

@@ -2,16 +2,16 @@
 use Rattle.std.proofs.Common.{ℕ, suc, ◌≡◌, ◌+◌, ◌-◌, ◌/◌, Bool, true, false, cond, List, [], ◌∷◌, ◌++◌, map, Option, Some, None, refl, ap, ◌∙◌}
 use Rattle.std.specs.Prelude.{max}
 use Rattle.std.specs.Option.{option_map}
-use Rattle.cg_svspec.specs.Tree.{Expression, Expressions, Entry, and, cat, drive, inv, more, net, none, pick, wire}
-use Rattle.cg_svspec.specs.Register.{access_ports}
+use Rattle.cg_svspec.specs.Tree.{Expression, Expressions, Entry, and, assign, cat, drive, inv, lit, more, net, none, pick, wire}
+use Rattle.cg_svspec.specs.Register.{access_ports, output_port}
 use Rattle.cg_desc.specs.declared.block.FieldDesc.{FieldDesc}
 use Rattle.cg_desc.specs.declared.block.RegDesc.{RegDesc}
 use Rattle.cg_desc.specs.declared.block.Item.{Item}
 use Rattle.cg_desc.specs.declared.block.Item.TheVariants.{Reg, Window, SkipTo, Reserved}
 use Rattle.cg_desc.specs.declared.block.LaidRow.{LaidRow}
 use Rattle.cg_desc.specs.declared.block.LaidFace.{LaidFace}
-use Rattle.cg_regspec.specs.NetNames.{base, hit, rbad, rd, re, reg_re, reg_we, state_net, wbad, we, window_base}
-use Rattle.cg_regspec.specs.RegisterModule.{all_ones, answer_entries, field_entries, field_ports, fields_entries, fields_ports, flop_of, flops_of, first_state, gap, gate_net, gate_of, gate_or, gated, highest_first, hit_of, item_fields, item_flops, item_gate, item_ports, item_states, item_windows, item_word_text, lacks_strobe, last_byte, last_rd, read_refused, register_entries, register_module, row_entries, rows_entries, rows_fields, rows_flops, rows_ports, rows_states, rows_windows, same_in_nets, shown_part, states_of, width_of, word_parts, write_refused}
+use Rattle.cg_regspec.specs.NetNames.{base, commit_net, equal_net, hit, next_phase_net, phase_net, rbad, rd, re, reg_re, reg_we, staged_net, state_net, update_error_net, wbad, we, window_base}
+use Rattle.cg_regspec.specs.RegisterModule.{all_equal, all_ones, answer_entries, entry_if, equals, equals_and, field_entries, field_ports, fields_entries, fields_ports, flop_of, flops_of, first_state, gap, gate_net, gate_of, gate_or, gated, has_shadow, highest_first, hit_of, item_fields, item_flops, item_gate, item_ports, item_states, item_windows, item_word_text, lacks_strobe, last_byte, last_rd, phase_flop, port_if, read_refused, register_entries, register_module, row_entries, rows_entries, rows_fields, rows_flops, rows_ports, rows_states, rows_windows, same_in_nets, second_write, shadow_entries, shown_part, staged_flop, states_of, width_of, word_parts, write_refused}
 use Rattle.cg_done.specs.Places.{field_unplaced, register_unplaced}
 use Rattle.cg_samespec.proofs.Items.{item_unplaced, with_fields}
 use Rattle.cg_samespec.proofs.Offsets.{laid_unplaced, row_unplaced}
@@ -24,8 +24,8 @@ fields_ports_are r [] = refl
 fields_ports_are r (f ∷ fs) = ap (λ ports. field_ports r f ++ ports) (fields_ports_are r fs)
 
 item_ports_are : (item : Item) → item_ports (item_unplaced item) ≡ item_ports item
-unfolding window_base
-item_ports_are (Reg r) = fields_ports_are r r.fields
+unfolding window_base update_error_net
+item_ports_are (Reg r) = ap (λ ports. ports ++ port_if (has_shadow r) (output_port 1 (update_error_net r))) (fields_ports_are r r.fields)
 item_ports_are (Window w) = refl
 item_ports_are (SkipTo to at) = refl
 item_ports_are (Reserved words at) = refl
@@ -37,17 +37,18 @@ rows_ports_are (row ∷ rows) = λ k. item_ports_are row.item k ++ rows_ports_ar
 states_are : (r : RegDesc) (fs : List FieldDesc) → states_of (register_unplaced r) (map field_unplaced fs) ≡ states_of r fs
 unfolding base
 states_are r [] = refl
-states_are r (f ∷ fs) = ap (λ entries. wire (width_of f) (state_net r f) ∷ entries) (states_are r fs)
+states_are r (f ∷ fs) =
+    ap (λ entries. wire (width_of f) (state_net r f) ∷ (entry_if (has_shadow r) (wire (width_of f) (staged_net r f)) ++ entries)) (states_are r fs)
 
-item_states_are : (item : Item) → item_states (item_unplaced item) ≡ item_states item
-item_states_are (Reg r) = λ k. cond r.hwext [] (states_are r r.fields k)
-item_states_are (Window w) = refl
-item_states_are (SkipTo to at) = refl
-item_states_are (Reserved words at) = refl
+item_states_are : (i : ℕ) (item : Item) → item_states i (item_unplaced item) ≡ item_states i item
+item_states_are i (Reg r) = λ k. cond r.hwext [] (states_are r r.fields k) ++ entry_if (has_shadow r) (wire 1 (phase_net i))
+item_states_are i (Window w) = refl
+item_states_are i (SkipTo to at) = refl
+item_states_are i (Reserved words at) = refl
 
-rows_states_are : (rows : List LaidRow) → rows_states (map row_unplaced rows) ≡ rows_states rows
-rows_states_are [] = refl
-rows_states_are (row ∷ rows) = λ k. item_states_are row.item k ++ rows_states_are rows k
+rows_states_are : (i : ℕ) (rows : List LaidRow) → rows_states i (map row_unplaced rows) ≡ rows_states i rows
+rows_states_are i [] = refl
+rows_states_are i (row ∷ rows) = λ k. item_states_are i row.item k ++ rows_states_are (i + 1) rows k
 
 -- ---- the rows
 
@@ -153,8 +154,25 @@ unfolding base
 fields_entries_are i r [] = refl
 fields_entries_are i r (f ∷ fs) = ap (λ entries. field_entries i r f ++ entries) (fields_entries_are i r fs)
 
+equals_and_are : (x : Expression) (r : RegDesc) (fs : List FieldDesc) → equals_and x (register_unplaced r) (map field_unplaced fs) ≡ equals_and x r fs
+unfolding base
+equals_and_are x r [] = refl
+equals_and_are x r (f ∷ fs) = equals_and_are (and x (equals r f)) r fs
+
+all_equal_are : (r : RegDesc) (fs : List FieldDesc) → all_equal (register_unplaced r) (map field_unplaced fs) ≡ all_equal r fs
+unfolding base
+all_equal_are r [] = refl
+all_equal_are r (f ∷ fs) = equals_and_are (equals r f) r fs
+
+shadow_entries_are : (i : ℕ) (r : RegDesc) → shadow_entries i (register_unplaced r) ≡ shadow_entries i r
+unfolding update_error_net
+shadow_entries_are i r =
+    ap (λ equal. drive 1 (equal_net i) equal ∷ drive 1 (commit_net i) (and (second_write i) (net (equal_net i)))
+    ∷ drive 1 (next_phase_net i) (pick (net (we i)) (inv (net (phase_net i))) (pick (net (re i)) (lit 1 0) (net (phase_net i))))
+    ∷ assign (update_error_net r) (and (second_write i) (inv (net (equal_net i)))) ∷ []) (all_equal_are r r.fields)
+
 item_fields_are : (i : ℕ) (item : Item) → item_fields i (item_unplaced item) ≡ item_fields i item
-item_fields_are i (Reg r) = fields_entries_are i r r.fields
+item_fields_are i (Reg r) = λ k. cond (has_shadow r) (shadow_entries_are i r k) [] ++ fields_entries_are i r r.fields k
 item_fields_are i (Window w) = refl
 item_fields_are i (SkipTo to at) = refl
 item_fields_are i (Reserved words at) = refl
@@ -177,24 +195,24 @@ rows_windows_are i (row ∷ rows) = λ k. item_windows_are i row.item k ++ rows_
 flops_are : (r : RegDesc) (fs : List FieldDesc) → flops_of (register_unplaced r) (map field_unplaced fs) ≡ flops_of r fs
 unfolding base
 flops_are r [] = refl
-flops_are r (f ∷ fs) = ap (λ entries. flop_of r f ∷ entries) (flops_are r fs)
+flops_are r (f ∷ fs) = ap (λ entries. flop_of r f ∷ (entry_if (has_shadow r) (staged_flop r f) ++ entries)) (flops_are r fs)
 
-item_flops_are : (item : Item) → item_flops (item_unplaced item) ≡ item_flops item
-item_flops_are (Reg r) = λ k. cond r.hwext [] (flops_are r r.fields k)
-item_flops_are (Window w) = refl
-item_flops_are (SkipTo to at) = refl
-item_flops_are (Reserved words at) = refl
+item_flops_are : (i : ℕ) (item : Item) → item_flops i (item_unplaced item) ≡ item_flops i item
+item_flops_are i (Reg r) = λ k. cond r.hwext [] (flops_are r r.fields k) ++ entry_if (has_shadow r) (phase_flop i)
+item_flops_are i (Window w) = refl
+item_flops_are i (SkipTo to at) = refl
+item_flops_are i (Reserved words at) = refl
 
-rows_flops_are : (rows : List LaidRow) → rows_flops (map row_unplaced rows) ≡ rows_flops rows
-rows_flops_are [] = refl
-rows_flops_are (row ∷ rows) = λ k. item_flops_are row.item k ++ rows_flops_are rows k
+rows_flops_are : (i : ℕ) (rows : List LaidRow) → rows_flops i (map row_unplaced rows) ≡ rows_flops i rows
+rows_flops_are i [] = refl
+rows_flops_are i (row ∷ rows) = λ k. item_flops_are i row.item k ++ rows_flops_are (i + 1) rows k
 
 -- ---- the whole
 
 entries_are : (face : LaidFace) → register_entries (laid_unplaced face) ≡ register_entries face
 entries_are face = λ k.
-    rows_states_are face.rows k ++ (rows_entries_are face.rows 0 all_ones face.rows k ++ (answer_is face.rows k ++ (rows_fields_are 0 face.rows k
-    ++ (rows_windows_are 0 face.rows k ++ rows_flops_are face.rows k))))
+    rows_states_are 0 face.rows k ++ (rows_entries_are face.rows 0 all_ones face.rows k ++ (answer_is face.rows k ++ (rows_fields_are 0 face.rows k
+    ++ (rows_windows_are 0 face.rows k ++ rows_flops_are 0 face.rows k))))
 
 -- the register module of an interface but for places is that of the interface
 pub register_module_is : (name : List ℕ) (face : LaidFace) → register_module name (laid_unplaced face) ≡ register_module name face

@@ -46,11 +46,7 @@ pub fn flop_instance(alloc: Global, register: &RegDesc, field: &FieldDesc) -> Re
 }
 
 /// The name of the flip-flop that stores a field's staged value.
-pub fn staged_instance(
-    alloc: Global,
-    register: &RegDesc,
-    field: &FieldDesc,
-) -> Result<Text, Memory>
+pub fn staged_instance(alloc: Global, register: &RegDesc, field: &FieldDesc) -> Result<Text, Memory>
     ensures { IfOk result (λ name. name ≡ staged_instance register.now field.now) }
 {
     let net = field_net(alloc, register, field, "_t")?;
