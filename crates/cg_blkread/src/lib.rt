@@ -28,6 +28,7 @@ mod raw;
 mod read_entries;
 mod read_fields;
 mod reading;
+mod shadowed;
 mod shape;
 mod tables;
 mod values;

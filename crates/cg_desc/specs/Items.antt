@@ -39,7 +39,7 @@ alert_fields lsb (a ∷ as') = automatic_field a.name lsb 1 Wo Hro a.at ∷ aler
 
 abbrev pub automatic_register : List ℕ → List FieldDesc → Bool → At → RegDesc
 automatic_register name fields hwext at =
-    record { name = name; fields = fields; regwen = None; regwen_at = at; hwext = hwext; hwqe = false; hwre = false; at = at }
+    record { name = name; fields = fields; regwen = None; regwen_at = at; hwext = hwext; hwqe = false; hwre = false; shadowed = false; at = at }
 
 -- An event stays until software writes 1 to it; a status is only read.
 abbrev pub state_access : IntrDesc → SwAccess
@@ -117,6 +117,7 @@ multireg_word m j = record {
   hwext = m.reg.hwext;
   hwqe = m.reg.hwqe;
   hwre = m.reg.hwre;
+  shadowed = m.reg.shadowed;
   at = m.reg.at;
 }
 

@@ -56,6 +56,7 @@ pub struct RegDesc {
     pub hwext: bool,
     pub hwqe: bool,
     pub hwre: bool,
+    pub shadowed: bool,
     pub at: At,
 }
 
