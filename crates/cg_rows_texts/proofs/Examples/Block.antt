@@ -28,7 +28,7 @@ abbrev field_up_to : ℕ → FieldDesc
 field_up_to msb = record { name = data_name; msb = msb; lsb = 0; sw = Rw; hw = Hro; resval = 0; mubi = false; at = nowhere }
 
 abbrev register_of : FieldDesc → RegDesc
-register_of f = record { name = data_name; fields = f ∷ []; regwen = None; regwen_at = nowhere; hwext = false; hwqe = false; hwre = false; at = nowhere }
+register_of f = record { name = data_name; fields = f ∷ []; regwen = None; regwen_at = nowhere; hwext = false; hwqe = false; hwre = false; shadowed = false; at = nowhere }
 
 -- the register alone, at offset 0
 abbrev pub face_of : RegDesc → LaidFace

@@ -24,7 +24,7 @@ field sw msb = record { name = codes "F"; msb = msb; lsb = 0; sw = sw; hw = Hro;
 
 abbrev register_with : List ℕ → Option (List ℕ) → Bool → FieldDesc → RegDesc
 register_with name gate hwext f =
-    record { name = name; fields = f ∷ []; regwen = gate; regwen_at = nowhere; hwext = hwext; hwqe = false; hwre = false; at = nowhere }
+    record { name = name; fields = f ∷ []; regwen = gate; regwen_at = nowhere; hwext = hwext; hwqe = false; hwre = false; shadowed = false; at = nowhere }
 
 abbrev lock : RegDesc
 lock = register_with (codes "LOCK") None false (field Rw 0)
