@@ -186,6 +186,24 @@ class Changer:
         entry |= chance.choice([{}, {"hwext": True}])
         self.entry(chance.choice([entry, entry, {"multireg": entry | {"count": 2}}]))
 
+    def shadow(self) -> None:
+        """A register that is shadowed, and whose kinds mostly let it be."""
+        chance = self.chance
+        holder = self.some(dict, "fields")
+        if holder is None:
+            return
+        holder["shadowed"] = chance.choice([True, True, True, "true", False, 1])
+        fields = holder["fields"] if isinstance(holder["fields"], list) else []
+        for part in [holder, *[field for field in fields if isinstance(field, dict)]]:
+            part |= {"swaccess": "rw", "hwaccess": chance.choice(["hro", "none"])}
+        part = chance.choice([holder, *[field for field in fields if isinstance(field, dict)]])
+        odd = [{"swaccess": chance.choice(WORDS)}, {"hwaccess": chance.choice(WORDS)}, {"hwaccess": "hrw"}]
+        part |= chance.choice([{}, *odd])
+        if chance.random() < 0.5:
+            del part[chance.choice(["swaccess", "hwaccess"])]
+        holder |= chance.choice([{}, {}, {"hwext": chance.choice([True, False, "true", "x"])}])
+        holder |= chance.choice([{}, {}, {}, {"fields": chance.choice([[], {}, [*fields, 1]])}])
+
     def skip(self) -> None:
         """A skip, a reservation, a large window or many copies somewhere among the entries."""
         count = self.chance.choice(NUMBERS)
@@ -224,7 +242,7 @@ class Changer:
 
     def changed(self, times: int) -> Object:
         """The description after so many changes."""
-        often = [self.replace, self.rename, self.bits, self.reset, self.gate, self.skip, self.add]
+        often = [self.replace, self.rename, self.bits, self.reset, self.gate, self.skip, self.add, self.shadow]
         ways = often + often + [self.replace_at] * 3 + [
             self.remove, self.double, self.repeat, self.many, self.lock, self.faces, self.clash]
         for _ in range(times):

@@ -8,7 +8,7 @@ from model.keys import KNOWN_BY, LISTS, span
 from model.rules import Field, fields_of, mask_of
 from model.trees import Json, Object
 
-REGISTER_SWITCHES = ["hwext", "hwqe", "hwre"]
+REGISTER_SWITCHES = ["hwext", "hwqe", "hwre", "shadowed"]
 
 
 def plain(value: Value) -> Json:

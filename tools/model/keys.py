@@ -24,8 +24,8 @@ OF_LISTS: dict[str, Table] = {
 }
 REGISTER: Table = {
     "name": [NAME], "swaccess": [None, one_of(*SOFTWARE)], "hwaccess": [None, one_of(*HARDWARE)],
-    "hwext": [None, BOOLEAN], "hwqe": [None, BOOLEAN], "hwre": [None, BOOLEAN], "regwen": [None, TEXT],
-    "resval": [None, NUMBER, BOOLEAN], "fields": [LIST],
+    "hwext": [None, BOOLEAN], "hwqe": [None, BOOLEAN], "hwre": [None, BOOLEAN], "shadowed": [None, BOOLEAN],
+    "regwen": [None, TEXT], "resval": [None, NUMBER, BOOLEAN], "fields": [LIST],
 }
 MULTIREG: Table = REGISTER | {
     "count": [NUMBER, LONG_NAME], "cname": [None, TEXT], "regwen_multi": [None, BOOLEAN], "compact": [None, BOOLEAN],
@@ -62,20 +62,39 @@ def span(value: Value | None) -> tuple[int, int] | None:
     return None
 
 
+def kind_that_counts(register: Value, field: Value, key: str, words: set[str], default: str) -> str | None:
+    """The kind that counts for a field: its own, its register's, or the default; None where that is no such word."""
+    held = field.member(key) or register.member(key)
+    return default if held is None else held.data if fits(held, one_of(*words)) else None
+
+
 def field_keys(register: Value, field: Value) -> list[Broken]:
     """What a field breaks of the rules on keys."""
     if field.kind != "object":
         return []
-    held = field.member("swaccess") or register.member("swaccess")
-    kind = "none" if held is None else held.data if fits(held, one_of(*SOFTWARE)) else None
+    kind = kind_that_counts(register, field, "swaccess", SOFTWARE, "none")
     bits = span(field.member("bits"))
     strange = (bits is not None and bits[0] - bits[1] != 3) or (kind is not None and kind not in ("rw", "ro", "wo"))
     return of_table(field, FIELD) + (outside(field, "mubi", True) if strange else [])
 
 
+def shadow_keys(register: Value) -> list[Broken]:
+    """What a shadowed register breaks, where all that is asked of it has its form."""
+    fields = listed(register, "fields")
+    if not (is_fit(register, "hwext", BOOLEAN) and is_fit(register, "fields", LIST)
+            and all(field.kind == "object" for field in fields)):
+        return []
+    kinds = [(kind_that_counts(register, field, "swaccess", SOFTWARE, "none"),
+              kind_that_counts(register, field, "hwaccess", HARDWARE, "hro")) for field in fields]
+    if any(None in pair for pair in kinds):
+        return []
+    plain = all(software == "rw" and hardware in ("hro", "none") for software, hardware in kinds)
+    return [] if plain and boolean(register.member("hwext")) is not True else outside(register, "shadowed", True)
+
+
 def register_keys(register: Value, table: Table) -> list[Broken]:
     """What a register or multireg breaks of the rules on keys; the table is that of its own keys."""
-    broken = of_table(register, table) + elements(register, "fields") + outside(register, "shadowed", True)
+    broken = of_table(register, table) + elements(register, "fields") + shadow_keys(register)
     for key in ["async", "sync", "alias_target"]:
         broken += outside(register, key)
     for field in listed(register, "fields"):

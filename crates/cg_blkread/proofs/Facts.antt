@@ -2,6 +2,7 @@
 pub mod Entries
 pub mod Values
 pub mod Registers
+pub mod Shadowed
 pub mod Interfaces
 pub mod BlockValues
 pub mod BlockKeys

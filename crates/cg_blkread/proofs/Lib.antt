@@ -5,6 +5,7 @@ mod MoreKeys
 mod NameSets
 mod Order
 mod Picked
+mod Plain
 mod SeenBits
 mod SeenKeys
 pub mod Sound

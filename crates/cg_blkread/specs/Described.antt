@@ -73,6 +73,7 @@ register_desc r = record {
   hwext = r.hwext;
   hwqe = r.hwqe;
   hwre = r.hwre;
+  shadowed = r.shadowed;
   at = r.at;
 }
 

@@ -1,16 +1,19 @@
 -- What a block breaks of the rules on keys, kinds and the profile.
-use Rattle.std.specs.Prelude.{ℕ, ◌==◌, nat_lt, Bool, true, false, not, ◌&&◌, ◌||◌, cond, List, [], ◌∷◌, ◌++◌, length, flat_map, codes, Option, Some, None, option_and_then, unwrap_or}
-use Rattle.std.specs.List.{list_all}
+use Rattle.std.specs.Prelude.{ℕ, ◌==◌, nat_lt, is_some, Bool, true, false, not, ◌&&◌, ◌||◌, cond, List, [], ◌∷◌, ◌++◌, length, flat_map, codes, Option, Some, None, option_and_then, unwrap_or}
+use Rattle.std.specs.List.{list_all, list_any}
 use Rattle.std.specs.Option.{option_map_or}
 use Rattle.std.specs.Str.{bytes_eq}
 use Rattle.cg_desc.specs.declared.block.SwAccess.{SwAccess}
 use Rattle.cg_desc.specs.declared.block.SwAccess.TheVariants.{Ro, Rw, Wo, Nothing}
+use Rattle.cg_desc.specs.declared.block.HwAccess.{HwAccess}
+use Rattle.cg_desc.specs.declared.block.HwAccess.TheVariants.{Hro}
+use Rattle.cg_desc.specs.AccessTable.{hardware_writes}
 use Rattle.cg_hjson.specs.declared.tree.Tree.{Tree}
 use Rattle.cg_hjson.specs.declared.tree.Member.{Member}
 use Rattle.cg_finding.specs.Finding.{Finding}
 use Rattle.cg_finding.specs.Rules as rules
 use Rattle.cg_keys.specs.Values.{array_in, text_in, members_of, items_of}
-use Rattle.cg_keys.specs.Forms.{software, fits}
+use Rattle.cg_keys.specs.Forms.{software, hardware, fits}
 use Rattle.cg_keys.specs.Table.{Key, value_at, value_faults, table_faults}
 use Rattle.cg_keys.specs.Duplicates.{duplicate_faults}
 use Rattle.cg_keys.specs.Elements.{elements, list_faults, element_faults, length_faults, object_faults, each_faults}
@@ -31,17 +34,59 @@ outside_key ms key = at_value key ms (λ at. rules.outside_the_profile at key �
 unfoldable pub outside_if_true : List Member → List ℕ → List Finding
 outside_if_true ms key = cond (unwrap_or (boolean_at key ms) false) (outside_key ms key) []
 
--- a register that is shadowed, asynchronous or an alias
-unfoldable pub register_outside : List Member → List Finding
-register_outside ms =
-    outside_if_true ms (codes "shadowed")
-    ++ (outside_key ms (codes "async") ++ (outside_key ms (codes "sync") ++ outside_key ms (codes "alias_target")))
-
 -- The software kind that counts for a field: its own, or else its register's, or else none; nothing where that has not its form.
 unfoldable pub kind_that_counts : List Member → List Member → Option SwAccess
 kind_that_counts register field =
     option_map_or (λ t. option_and_then software (text_in t)) (value_at (codes "swaccess") field)
     (option_map_or (λ t. option_and_then software (text_in t)) (value_at (codes "swaccess") register) (Some Nothing))
+
+-- The hardware kind that counts for a field: its own, or else its register's, or else `hro`; nothing where that has not its form.
+unfoldable pub hardware_that_counts : List Member → List Member → Option HwAccess
+hardware_that_counts register field =
+    option_map_or (λ t. option_and_then hardware (text_in t)) (value_at (codes "hwaccess") field)
+    (option_map_or (λ t. option_and_then hardware (text_in t)) (value_at (codes "hwaccess") register) (Some Hro))
+
+-- a field is an object, and the kinds that count for it have their forms
+unfoldable pub kinds_are_told : List Member → Tree → Bool
+kinds_are_told register field =
+    fits Object field && (is_some (kind_that_counts register (members_of field)) && is_some (hardware_that_counts register (members_of field)))
+
+-- what is asked of a shadowed register has its form
+unfoldable pub can_be_judged : List Member → Bool
+can_be_judged ms =
+    is_fit_at (Boolean ∷ []) (codes "hwext") ms
+    && (is_fit_at (Items ∷ []) (codes "fields") ms && list_all (kinds_are_told ms) (elements (codes "fields") ms))
+
+abbrev pub is_rw : SwAccess → Bool
+is_rw Rw = true
+is_rw _ = false
+
+abbrev pub is_other_than_rw : Option SwAccess → Bool
+is_other_than_rw None = false
+is_other_than_rw (Some k) = not (is_rw k)
+
+abbrev pub is_written_by_hardware : Option HwAccess → Bool
+is_written_by_hardware None = false
+is_written_by_hardware (Some k) = hardware_writes k
+
+-- a field does not take its value by two writes of software alone
+unfoldable pub takes_other_values : List Member → Tree → Bool
+takes_other_values register field =
+    is_other_than_rw (kind_that_counts register (members_of field)) || is_written_by_hardware (hardware_that_counts register (members_of field))
+
+-- a register that has no storage, or a field that takes other values
+unfoldable pub cannot_be_shadowed : List Member → Bool
+cannot_be_shadowed ms = unwrap_or (boolean_at (codes "hwext") ms) false || list_any (takes_other_values ms) (elements (codes "fields") ms)
+
+-- a shadowed register has storage, and its fields take values by two writes of software alone
+unfoldable pub shadow_outside : List Member → List Finding
+shadow_outside ms = cond (can_be_judged ms && cannot_be_shadowed ms) (outside_if_true ms (codes "shadowed")) []
+
+-- a register that is shadowed and cannot be so, asynchronous or an alias
+unfoldable pub register_outside : List Member → List Finding
+register_outside ms =
+    shadow_outside ms
+    ++ (outside_key ms (codes "async") ++ (outside_key ms (codes "sync") ++ outside_key ms (codes "alias_target")))
 
 abbrev pub takes_mubi : SwAccess → Bool
 takes_mubi Ro = true

@@ -8,6 +8,7 @@ pub mod Seen
 pub mod Values
 pub mod Facts
 pub mod Described
+pub mod Plain
 pub mod Order
 pub mod Reads
 pub mod Views

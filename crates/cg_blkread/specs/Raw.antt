@@ -129,6 +129,7 @@ raw_register t =
       hwext = is_true (codes "hwext") ms;
       hwqe = is_true (codes "hwqe") ms;
       hwre = is_true (codes "hwre") ms;
+      shadowed = is_true (codes "shadowed") ms;
       at = place_at (codes "name") ms t.at;
     }
 

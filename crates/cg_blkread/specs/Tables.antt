@@ -60,6 +60,7 @@ register_keys =
     ∷ may (codes "hwext") (Boolean ∷ [])
     ∷ may (codes "hwqe") (Boolean ∷ [])
     ∷ may (codes "hwre") (Boolean ∷ [])
+    ∷ may (codes "shadowed") (Boolean ∷ [])
     ∷ may (codes "regwen") (Text ∷ [])
     ∷ may (codes "resval") (word_number ∷ Boolean ∷ [])
     ∷ needs (codes "fields") (Items ∷ [])

@@ -28,12 +28,13 @@ mod raw;
 mod read_entries;
 mod read_fields;
 mod reading;
+mod shadowed;
 mod shape;
 mod tables;
 mod values;
 
 pub use described_entries::reset_of;
-pub use laws::{fields_stand_in_order, violations_are_listed};
+pub use laws::{fields_stand_in_order, shadowed_registers_are_plain, violations_are_listed};
 pub use raw::{Bits, RawEntry, RawField, RawMultireg, RawRegister, RawWindow};
 pub use read_entries::is_compact;
 pub use read_fields::{Shared, is_true, register_reset, shared_of, written_fields};

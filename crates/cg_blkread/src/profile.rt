@@ -16,6 +16,7 @@ ghost use Rattle.cg_blkread.specs.Keys.{compact_outside, fields_are_objects, has
 
 use crate::bits::bits;
 use crate::raw::Bits;
+use crate::shadowed::shadow_outside;
 use cg_desc::SwAccess;
 use cg_finding::{Found, earlier_of};
 use cg_hjson::{Member, Tree};
@@ -33,7 +34,7 @@ pub(crate) fn outside_key<'a>(members: &[Member], key: &'a str) -> Option<Found<
     Some(Found::outside_the_profile(tree.at, key))
 }
 
-fn is_true(members: &[Member], key: &str) -> bool
+pub(crate) fn is_true(members: &[Member], key: &str) -> bool
     ensures { result ≡ unwrap_or (boolean_at key.now members.now) false }
 {
     boolean_at(members, key).unwrap_or(false)
@@ -41,7 +42,7 @@ fn is_true(members: &[Member], key: &str) -> bool
 
 /// A key that is outside the profile where it is true.
 #[tactic(auto, unfolding(crate::specs::Keys::outside_if_true), using(cg_finding::proofs::Firsts::firsts))]
-fn outside_if_true<'a>(members: &[Member], key: &'a str) -> Option<Found<'a>>
+pub(crate) fn outside_if_true<'a>(members: &[Member], key: &'a str) -> Option<Found<'a>>
     ensures { sees result ≡ first_of (outside_if_true members.now key.now) }
 {
     if is_true(members, key) {
@@ -51,12 +52,12 @@ fn outside_if_true<'a>(members: &[Member], key: &'a str) -> Option<Found<'a>>
     }
 }
 
-/// A register that is shadowed, asynchronous or an alias.
+/// A register that is shadowed and cannot be so, asynchronous or an alias.
 #[tactic(auto, unfolding(crate::specs::Keys::register_outside), using(cg_finding::proofs::Firsts::firsts))]
 pub(crate) fn register_outside(register: &[Member]) -> Option<Found<'static>>
     ensures { sees result ≡ first_of (register_outside register.now) }
 {
-    let shadowed = outside_if_true(register, "shadowed");
+    let shadowed = shadow_outside(register);
     let asynchronous = outside_key(register, "async");
     let synchronous = outside_key(register, "sync");
     let alias = outside_key(register, "alias_target");
@@ -68,7 +69,7 @@ pub(crate) fn register_outside(register: &[Member]) -> Option<Found<'static>>
 
 /// The software kind that counts for a field; `None` where its word is none of the kinds.
 #[tactic(auto, unfolding(crate::specs::Keys::kind_that_counts))]
-fn kind_that_counts(register: &[Member], field: &[Member]) -> Option<SwAccess>
+pub(crate) fn kind_that_counts(register: &[Member], field: &[Member]) -> Option<SwAccess>
     ensures { result ≡ kind_that_counts register.now field.now }
 {
     match value_at(field, "swaccess") {

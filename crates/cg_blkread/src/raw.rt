@@ -37,6 +37,7 @@ pub struct RawRegister {
     pub hwext: bool,
     pub hwqe: bool,
     pub hwre: bool,
+    pub shadowed: bool,
     pub at: At,
 }
 

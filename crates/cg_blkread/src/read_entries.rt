@@ -49,6 +49,7 @@ fn read_register(alloc: Global, tree: &Tree) -> Result<RawRegister, Memory>
         hwext: is_true(members, "hwext"),
         hwqe: is_true(members, "hwqe"),
         hwre: is_true(members, "hwre"),
+        shadowed: is_true(members, "shadowed"),
         at: place_at(members, "name", tree.at),
     })
 }

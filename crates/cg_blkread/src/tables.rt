@@ -158,7 +158,7 @@ const PIN: [Row; 2] = [
     },
 ];
 
-const REGISTER: [Row; 9] = [
+const REGISTER: [Row; 10] = [
     Row {
         key: "name",
         forms: &[Form::Name],
@@ -186,6 +186,11 @@ const REGISTER: [Row; 9] = [
     },
     Row {
         key: "hwre",
+        forms: &[Form::Boolean],
+        needed: false,
+    },
+    Row {
+        key: "shadowed",
         forms: &[Form::Boolean],
         needed: false,
     },

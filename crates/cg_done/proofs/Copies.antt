@@ -54,7 +54,7 @@ same_count ps key t u there = count_by ps key t u (number_at 0 4294967295 key (m
 pub register_same : (t u : Tree) → Completed (register_pairs (members_of t)) t u → SameRegister t u
 register_same t u done =
     by_object (register_pairs (members_of t)) t u done
-    (λ is. same_register t u (register_completed t u (λ key. Unit {0}) (λ key listed. stands_at (register_pairs (members_of t)) t u done is key) tt tt tt tt tt tt tt tt tt))
+    (λ is. same_register t u (register_completed t u (λ key. Unit {0}) (λ key listed. stands_at (register_pairs (members_of t)) t u done is key) tt tt tt tt tt tt tt tt tt tt))
     (register_by_members t u)
 
 -- and complete
@@ -124,7 +124,8 @@ module _ (ps : List Parameter) (t u : Tree) (done : Completed (copies_of t) t u)
   register_in_object : SameRegister t u
   register_in_object = same_register t u (register_completed t u (λ key. last_at key (copy_pairs old) ≡ None) at_register
       (last_in_copies (codes "name") old) (last_in_copies (codes "regwen") old) (last_in_copies (codes "swaccess") old) (last_in_copies (codes "hwaccess") old)
-      (last_in_copies (codes "hwext") old) (last_in_copies (codes "hwqe") old) (last_in_copies (codes "hwre") old) (last_in_copies (codes "fields") old)
+      (last_in_copies (codes "hwext") old) (last_in_copies (codes "hwqe") old) (last_in_copies (codes "hwre") old)
+      (last_in_copies (codes "shadowed") old) (last_in_copies (codes "fields") old)
       (last_in_copies (codes "resval") old))
 
   count_there : NumberCompleted (codes "count") t u

@@ -235,7 +235,15 @@ registers_fine n t h =
             (
               a_word (codes "hwre") refl,
               boolean_fine m (is_true (codes "hwre") ms),
-              (a_word (codes "fields") refl, list_fine (suc n) _ fields, if_fine m (codes "resval") (register_reset ms) (a_word (codes "resval") refl) (register_reset_small ms)),
+              (
+                a_word (codes "shadowed") refl,
+                boolean_fine m (is_true (codes "shadowed") ms),
+                (
+                  a_word (codes "fields") refl,
+                  list_fine (suc n) _ fields,
+                  if_fine m (codes "resval") (register_reset ms) (a_word (codes "resval") refl) (register_reset_small ms),
+                ),
+              ),
             ),
           ),
         ),

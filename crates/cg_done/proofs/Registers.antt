@@ -37,6 +37,7 @@ certain_pairs ms =
     ∷ pair (codes "hwext") (boolean (is_true (codes "hwext") ms))
     ∷ pair (codes "hwqe") (boolean (is_true (codes "hwqe") ms))
     ∷ pair (codes "hwre") (boolean (is_true (codes "hwre") ms))
+    ∷ pair (codes "shadowed") (boolean (is_true (codes "shadowed") ms))
     ∷ pair (codes "fields") (list_of (fields_full ms))
     ∷ []
 
@@ -62,6 +63,7 @@ pub record RegisterCompleted (t u : Tree) : Type 0 where
   pub hwext : HasAt (codes "hwext") u (boolean (is_true (codes "hwext") (members_of t)))
   pub hwqe : HasAt (codes "hwqe") u (boolean (is_true (codes "hwqe") (members_of t)))
   pub hwre : HasAt (codes "hwre") u (boolean (is_true (codes "hwre") (members_of t)))
+  pub shadowed : HasAt (codes "shadowed") u (boolean (is_true (codes "shadowed") (members_of t)))
   pub fields : HasAt (codes "fields") u (list_of (fields_full (members_of t)))
   pub resval : get (codes "resval") (told u) ≡ or_else (option_map number_of (register_reset (members_of t))) (get (codes "resval") (told t))
 
@@ -69,8 +71,8 @@ pub record RegisterCompleted (t u : Tree) : Type 0 where
 pub register_completed : (t u : Tree) → (Listed : List ℕ → Type 0)
     → ((key : List ℕ) → Listed key → get key (told u) ≡ or_else (last_at key (register_pairs (members_of t))) (get key (told t)))
     → Listed (codes "name") → Listed (codes "regwen") → Listed (codes "swaccess") → Listed (codes "hwaccess") → Listed (codes "hwext")
-    → Listed (codes "hwqe") → Listed (codes "hwre") → Listed (codes "fields") → Listed (codes "resval") → RegisterCompleted t u
-register_completed t u Listed stands name_listed regwen_listed swaccess_listed hwaccess_listed hwext_listed hwqe_listed hwre_listed fields_listed resval_listed =
+    → Listed (codes "hwqe") → Listed (codes "hwre") → Listed (codes "shadowed") → Listed (codes "fields") → Listed (codes "resval") → RegisterCompleted t u
+register_completed t u Listed stands name_listed regwen_listed swaccess_listed hwaccess_listed hwext_listed hwqe_listed hwre_listed shadowed_listed fields_listed resval_listed =
     let at : (key : List ℕ) → Listed key → get key (told u) ≡ or_else (or_else (reset_at key (members_of t)) (last_at key (certain_pairs (members_of t)))) (get key (told t)) =
     λ key listed. stands key listed ∙ ap (λ o. or_else o (get key (told t))) (last_in_register key (members_of t)) in
     record {
@@ -81,6 +83,7 @@ register_completed t u Listed stands name_listed regwen_listed swaccess_listed h
       hwext = at (codes "hwext") hwext_listed;
       hwqe = at (codes "hwqe") hwqe_listed;
       hwre = at (codes "hwre") hwre_listed;
+      shadowed = at (codes "shadowed") shadowed_listed;
       fields = at (codes "fields") fields_listed;
       resval = at (codes "resval") resval_listed ∙ ap (λ o. or_else o (get (codes "resval") (told t))) (or_else_none (option_map number_of (register_reset (members_of t))));
     }
@@ -122,6 +125,7 @@ register_by_members t u same = record {
     hwext = is_true (codes "hwext") (same i);
     hwqe = is_true (codes "hwqe") (same i);
     hwre = is_true (codes "hwre") (same i);
+    shadowed = is_true (codes "shadowed") (same i);
     at = start;
   };
   pairs = ap register_pairs same;
@@ -187,6 +191,7 @@ module _ (t u : Tree) (done : RegisterCompleted t u) where
     hwext = same_flag (codes "hwext") done.hwext i;
     hwqe = same_flag (codes "hwqe") done.hwqe i;
     hwre = same_flag (codes "hwre") done.hwre i;
+    shadowed = same_flag (codes "shadowed") done.shadowed i;
     at = start;
   }
 
@@ -198,6 +203,7 @@ module _ (t u : Tree) (done : RegisterCompleted t u) where
       ∷ pair (codes "hwext") (boolean (same_flag (codes "hwext") done.hwext i))
       ∷ pair (codes "hwqe") (boolean (same_flag (codes "hwqe") done.hwqe i))
       ∷ pair (codes "hwre") (boolean (same_flag (codes "hwre") done.hwre i))
+      ∷ pair (codes "shadowed") (boolean (same_flag (codes "shadowed") done.shadowed i))
       ∷ pair (codes "fields") (list_of (same_full i))
       ∷ pair_if (codes "resval") (option_map number_of (same_reset i))
 

@@ -38,32 +38,22 @@ use Rattle.cg_done.proofs.Words.{AccessesWindow, AccessesWindowIf, window_by_def
 abbrev plain_pairs : List Member → Option ℕ → List Pair
 plain_pairs ms o = certain_pairs ms ++ pair_if (codes "resval") (option_map number_of o)
 
--- the rows of a register behind the first two
-abbrev other_rows : List Key
-other_rows =
-    may (codes "hwaccess") (Word Hardware ∷ [])
-    ∷ may (codes "hwext") (Boolean ∷ [])
-    ∷ may (codes "hwqe") (Boolean ∷ [])
-    ∷ may (codes "hwre") (Boolean ∷ [])
-    ∷ may (codes "regwen") (Text ∷ [])
-    ∷ may (codes "resval") (word_number ∷ Boolean ∷ [])
-    ∷ needs (codes "fields") (Items ∷ [])
-    ∷ []
-
-plain_put : (ms : List Member) (o : Option ℕ) → IsWord o → RegisterPut (rows other_rows) (plain_pairs ms o) ms o
+plain_put : (ms : List Member) (o : Option ℕ) → IsWord o → RegisterPut (rows []) (plain_pairs ms o) ms o
 plain_put ms None word = record {
-  puts = (tt, (software_fits (shared_of ms).sw, (hardware_fits (shared_of ms).hw, (refl, (refl, (refl, (tt, (tt, (refl, tt)))))))));
+  puts = (tt, (software_fits (shared_of ms).sw, (hardware_fits (shared_of ms).hw, (refl, (refl, (refl, (refl, (tt, (tt, (refl, tt))))))))));
   fields = refl;
   resval = refl;
+  hwext = refl;
   shadowed = refl;
   async = refl;
   sync = refl;
   alias_target = refl;
 }
 plain_put ms (Some v) word = record {
-  puts = (tt, (software_fits (shared_of ms).sw, (hardware_fits (shared_of ms).hw, (refl, (refl, (refl, (tt, (word_fits (Boolean ∷ []) v (word v refl), (refl, tt)))))))));
+  puts = (tt, (software_fits (shared_of ms).sw, (hardware_fits (shared_of ms).hw, (refl, (refl, (refl, (refl, (tt, (word_fits (Boolean ∷ []) v (word v refl), (refl, tt))))))))));
   fields = refl;
   resval = refl;
+  hwext = refl;
   shadowed = refl;
   async = refl;
   sync = refl;
@@ -79,11 +69,11 @@ pub record IsGoodRegister (ks : List Key) (d : Data) : Type 0 where
 pub register_stays : (t : Tree) → is_object (told t) ≡ true → IsGoodRegister register_keys (told t) → IsGoodRegister register_keys (full_register t)
 unfolding register_pairs
 register_stays t is good =
-    let put : RegisterPut (rows other_rows) (register_pairs (members_of t)) (members_of t) (register_reset (members_of t)) =
+    let put : RegisterPut (rows []) (register_pairs (members_of t)) (members_of t) (register_reset (members_of t)) =
     plain_put (members_of t) (register_reset (members_of t)) (register_word (members_of t)) in
     record {
-      keys = register_keys_stay t other_rows (register_pairs (members_of t)) is good.keys good.values put;
-      values = register_values_stay t other_rows (register_pairs (members_of t)) is good.keys good.values put;
+      keys = register_keys_stay t [] (register_pairs (members_of t)) is good.keys good.values put;
+      values = register_values_stay t [] (register_pairs (members_of t)) is good.keys good.values put;
     }
 
 -- ---- numbers that may be a parameter's name
@@ -112,7 +102,7 @@ copies_pairs ms o c =
 
 -- what is put into a multireg
 record CopiesPut (ps : List Pair) (ms : List Member) (o c : Option ℕ) : Type 0 where
-  register : RegisterPut (rows (other_rows ++ copy_keys)) ps ms o
+  register : RegisterPut (rows copy_keys) ps ms o
   regwen : last_at (codes "regwen_multi") ps ≡ Some (boolean (is_true (codes "regwen_multi") ms))
   compact : last_at (codes "compact") ps ≡ Some (boolean (is_compact ms))
   count : last_at (codes "count") ps ≡ option_map number_of c
@@ -120,9 +110,10 @@ record CopiesPut (ps : List Pair) (ms : List Member) (o c : Option ℕ) : Type 0
 copies_put : (ms : List Member) (o c : Option ℕ) → IsWord o → IsWord c → CopiesPut (copies_pairs ms o c) ms o c
 copies_put ms None None reset count = record {
   register = record {
-    puts = (tt, (software_fits (shared_of ms).sw, (hardware_fits (shared_of ms).hw, (refl, (refl, (refl, (tt, (tt, (refl, (tt, (tt, (refl, (refl, tt)))))))))))));
+    puts = (tt, (software_fits (shared_of ms).sw, (hardware_fits (shared_of ms).hw, (refl, (refl, (refl, (refl, (tt, (tt, (refl, (tt, (tt, (refl, (refl, tt))))))))))))));
     fields = refl;
     resval = refl;
+    hwext = refl;
     shadowed = refl;
     async = refl;
     sync = refl;
@@ -134,9 +125,10 @@ copies_put ms None None reset count = record {
 }
 copies_put ms None (Some n) reset count = record {
   register = record {
-    puts = (tt, (software_fits (shared_of ms).sw, (hardware_fits (shared_of ms).hw, (refl, (refl, (refl, (tt, (tt, (refl, (word_fits (ParameterName ∷ []) n (count n refl), (tt, (refl, (refl, tt)))))))))))));
+    puts = (tt, (software_fits (shared_of ms).sw, (hardware_fits (shared_of ms).hw, (refl, (refl, (refl, (refl, (tt, (tt, (refl, (word_fits (ParameterName ∷ []) n (count n refl), (tt, (refl, (refl, tt))))))))))))));
     fields = refl;
     resval = refl;
+    hwext = refl;
     shadowed = refl;
     async = refl;
     sync = refl;
@@ -148,9 +140,10 @@ copies_put ms None (Some n) reset count = record {
 }
 copies_put ms (Some v) None reset count = record {
   register = record {
-    puts = (tt, (software_fits (shared_of ms).sw, (hardware_fits (shared_of ms).hw, (refl, (refl, (refl, (tt, (word_fits (Boolean ∷ []) v (reset v refl), (refl, (tt, (tt, (refl, (refl, tt)))))))))))));
+    puts = (tt, (software_fits (shared_of ms).sw, (hardware_fits (shared_of ms).hw, (refl, (refl, (refl, (refl, (tt, (word_fits (Boolean ∷ []) v (reset v refl), (refl, (tt, (tt, (refl, (refl, tt))))))))))))));
     fields = refl;
     resval = refl;
+    hwext = refl;
     shadowed = refl;
     async = refl;
     sync = refl;
@@ -168,30 +161,13 @@ copies_put ms (Some v) (Some n) reset count = record {
         software_fits (shared_of ms).sw,
         (
           hardware_fits (shared_of ms).hw,
-          (
-            refl,
-            (
-              refl,
-              (
-                refl,
-                (
-                  tt,
-                  (
-                    word_fits (Boolean ∷ []) v (reset v refl),
-                    (
-                      refl,
-                      (word_fits (ParameterName ∷ []) n (count n refl), (tt, (refl, (refl, tt)))),
-                    ),
-                  ),
-                ),
-              ),
-            ),
-          ),
+          (refl, (refl, (refl, (refl, (tt, (word_fits (Boolean ∷ []) v (reset v refl), (refl, (word_fits (ParameterName ∷ []) n (count n refl), (tt, (refl, (refl, tt))))))))))),
         ),
       ),
     );
     fields = refl;
     resval = refl;
+    hwext = refl;
     shadowed = refl;
     async = refl;
     sync = refl;
@@ -240,7 +216,7 @@ module _ (params : List Parameter) (t : Tree) (keys : multireg_good (told t) ≡
 
   one_field : (length (elements (codes "fields") ms) == 1) ≡ true → length (elements_of (codes "fields") full) ≡ 1
   one_field sole =
-      ap length (full_elements t (other_rows ++ copy_keys) ps is good fine put.register)
+      ap length (full_elements t copy_keys ps is good fine put.register)
       ∙ full_length (shared_of ms) (register_reset ms) 1 (elements (codes "fields") ms) ∙ eqb-true _ _ sole
 
   full_compact : is_not_true (codes "compact") full ≡ not (is_compact ms)
@@ -270,12 +246,12 @@ module _ (params : List Parameter) (t : Tree) (keys : multireg_good (told t) ≡
   pub multireg_keys_stay : multireg_good (full_multireg t) ≡ true
   multireg_keys_stay = λ i.
       fits_first Object [] full (object_stays ps (told t) is) i
-      && (register_keys_stay t (other_rows ++ copy_keys) ps is good fine put.register i && compact_stays_by (is_compact ms) refl i)
+      && (register_keys_stay t copy_keys ps is good fine put.register i && compact_stays_by (is_compact ms) refl i)
 
   -- and none on values
   pub multireg_values_stay : multireg_values params (full_multireg t) ≡ true
   multireg_values_stay = λ i.
-      register_values_stay t (other_rows ++ copy_keys) ps is good fine put.register i
+      register_values_stay t copy_keys ps is good fine put.register i
       && (ap (is_count_to 4096) (same_count params (codes "count") ps t is put.count) ∙ (and_parts (register_values_good (told t)) _ values).1) i
 
 -- ---- windows

@@ -1,17 +1,19 @@
 -- What the entries of a block break of the rules on keys, by the JSON values that they tell.
-use Rattle.std.proofs.Common.{◌≡◌, ℕ, nat_lt, Bool, true, false, ◌&&◌, ◌||◌, cond, length, codes, List, [], ◌∷◌, ◌++◌, map, Option, Some, None, option_map, option_and_then, unwrap_or, refl, sym, ap, ◌∙◌}
+use Rattle.std.proofs.Common.{◌≡◌, ℕ, nat_lt, Bool, true, false, ◌&&◌, ◌||◌, cond, is_some, length, codes, List, [], ◌∷◌, ◌++◌, map, Option, Some, None, option_map, option_and_then, unwrap_or, refl, sym, ap, ◌∙◌}
 use Rattle.std.proofs.lemmas.List.{length-map}
-use Rattle.std.specs.List.{list_all}
+use Rattle.std.specs.List.{list_all, list_any}
 use Rattle.std.specs.Option.{option_map_or}
 use Rattle.serde_json.specs.Data.{Data}
 use Rattle.serde_json.specs.Find.{as_array, as_str, get}
 use Rattle.cg_desc.specs.declared.place.At.{At}
 use Rattle.cg_desc.specs.declared.block.SwAccess.{SwAccess}
 use Rattle.cg_desc.specs.declared.block.SwAccess.TheVariants.{Nothing}
+use Rattle.cg_desc.specs.declared.block.HwAccess.{HwAccess}
+use Rattle.cg_desc.specs.declared.block.HwAccess.TheVariants.{Hro}
 use Rattle.cg_finding.specs.Finding.{Finding, finding}
 use Rattle.cg_hjson.specs.declared.tree.Tree.{Tree}
 use Rattle.cg_keys.specs.Elements.{elements, element_faults, list_faults, object_faults}
-use Rattle.cg_keys.specs.Forms.{fits, fits_one, software}
+use Rattle.cg_keys.specs.Forms.{fits, fits_one, hardware, software}
 use Rattle.cg_keys.specs.Lookups.{boolean_at, is_fit_at}
 use Rattle.cg_keys.specs.Table.{Key, value_at, value_faults}
 use Rattle.cg_keys.specs.Values.{array_in, items_of, members_of, text_in}
@@ -19,11 +21,11 @@ use Rattle.cg_keys.specs.declared.forms.Form.{Form}
 use Rattle.cg_keys.specs.declared.forms.Form.TheVariants.{Boolean, Items, Object}
 use Rattle.cg_blkread.specs.Bits.{bits_in}
 use Rattle.cg_blkread.specs.Interfaces.{EntryList}
-use Rattle.cg_blkread.specs.Keys.{compact_outside, entry_faults, entry_kind_faults, entry_list_faults, field_faults, fields_are_objects, has_other_kind, has_other_width, kind_that_counts, mubi_outside, multireg_faults, outside_if_true, outside_key, register_faults, register_outside, window_faults}
+use Rattle.cg_blkread.specs.Keys.{can_be_judged, cannot_be_shadowed, compact_outside, entry_faults, entry_kind_faults, entry_list_faults, field_faults, fields_are_objects, hardware_that_counts, has_other_kind, has_other_width, is_other_than_rw, is_written_by_hardware, kind_that_counts, kinds_are_told, mubi_outside, multireg_faults, outside_if_true, outside_key, register_faults, register_outside, shadow_outside, takes_other_values, window_faults}
 use Rattle.cg_blkread.specs.Tables.{copy_keys, field_keys, register_keys, window_keys, word_number}
 use Rattle.cg_done.proofs.Lookups.{bits_at_told, bits_told_in, boolean_at_told, boolean_told_in, elements_told, is_object, items_told_in}
 use Rattle.cg_done.proofs.SoundNone.{is_none, none_by_both, none_of_each, none_where}
-use Rattle.cg_done.proofs.SoundTables.{all_items, all_told, by_value_at, elements_of, fits_by_told, fits_one_by_told, fits_one_told, none_in_value, none_of_element_list, none_of_elements, none_of_list, none_of_object, object_good}
+use Rattle.cg_done.proofs.SoundTables.{all_elements, all_items, all_told, by_value_at, elements_of, fits_by_told, fits_one_by_told, fits_one_told, none_in_value, none_of_element_list, none_of_elements, none_of_list, none_of_object, object_good}
 use Rattle.cg_done.proofs.Told.{array_told, found_told, listed, text_told, told}
 
 -- ---- outside
@@ -56,34 +58,120 @@ none_of_true key t =
     none_where (unwrap_or (boolean_at key (members_of t)) false) (outside_key (members_of t) key)
     ∙ (λ i. cond (unwrap_or (boolean_at_told key t i) false) (none_of_key_outside key t i) true)
 
--- a register is not shadowed, asynchronous or an alias
+-- the key is absent, or its value has one of the forms
+abbrev pub fit_at_told : List Form → List ℕ → Data → Bool
+fit_at_told forms key d = option_map_or (fits_one_told forms) (get key d) true
+
+-- the form of what stands at a key
+pub fit_at_by_told : (forms : List Form) (key : List ℕ) (t : Tree) → is_fit_at forms key (members_of t) ≡ fit_at_told forms key (told t)
+unfolding is_fit_at
+fit_at_by_told forms key t = by_value_at (fits_one forms) (fits_one_told forms) true (fits_one_by_told forms) key t
+
+-- the boolean at a key
+abbrev pub true_by_told : (key : List ℕ) (t : Tree) → unwrap_or (boolean_at key (members_of t)) false ≡ is_true_told key (told t)
+true_by_told key t = ap (λ o. unwrap_or o false) (boolean_at_told key t)
+
+-- ---- kinds
+
+-- the kind that counts for a field, by its word at a key
+abbrev pub kind_by_word : {K : Type 0} → (List ℕ → Option K) → K → List ℕ → Data → Data → Option K
+kind_by_word kinds otherwise key register d =
+    option_map_or (λ e. option_and_then kinds (as_str e)) (get key d) (option_map_or (λ e. option_and_then kinds (as_str e)) (get key register) (Some otherwise))
+
+-- how software accesses it
+abbrev pub kind_told : Data → Data → Option SwAccess
+kind_told register d = kind_by_word software Nothing (codes "swaccess") register d
+
+-- how hardware does
+abbrev pub hardware_told : Data → Data → Option HwAccess
+hardware_told register d = kind_by_word hardware Hro (codes "hwaccess") register d
+
+word_told : {K : Type 0} (kinds : List ℕ → Option K) (t : Tree) → option_and_then kinds (text_in t) ≡ option_and_then kinds (as_str (told t))
+word_told kinds t = ap (option_and_then kinds) (text_told t)
+
+word_by_told : {K : Type 0} (kinds : List ℕ → Option K) (otherwise : K) (key : List ℕ) (register t : Tree)
+    → option_map_or (λ t. option_and_then kinds (text_in t)) (value_at key (members_of t))
+    (option_map_or (λ t. option_and_then kinds (text_in t)) (value_at key (members_of register)) (Some otherwise))
+    ≡ kind_by_word kinds otherwise key (told register) (told t)
+word_by_told kinds otherwise key register t =
+    by_value_at (λ t. option_and_then kinds (text_in t)) (λ e. option_and_then kinds (as_str e)) _ (word_told kinds) key t
+    ∙ ap (option_map_or (λ e. option_and_then kinds (as_str e)) (get key (told t)))
+    (by_value_at (λ t. option_and_then kinds (text_in t)) (λ e. option_and_then kinds (as_str e)) (Some otherwise) (word_told kinds) key register)
+
+kind_by_told : (register t : Tree) → kind_that_counts (members_of register) (members_of t) ≡ kind_told (told register) (told t)
+unfolding kind_that_counts
+kind_by_told register t = word_by_told software Nothing (codes "swaccess") register t
+
+hardware_by_told : (register t : Tree) → hardware_that_counts (members_of register) (members_of t) ≡ hardware_told (told register) (told t)
+unfolding hardware_that_counts
+hardware_by_told register t = word_by_told hardware Hro (codes "hwaccess") register t
+
+-- ---- shadowed registers
+
+-- a field is an object, and the kinds that count for it have their forms
+abbrev pub kinds_good : Data → Data → Bool
+kinds_good register d = is_object d && (is_some (kind_told register d) && is_some (hardware_told register d))
+
+kinds_by_told : (register t : Tree) → kinds_are_told (members_of register) t ≡ kinds_good (told register) (told t)
+unfolding kinds_are_told
+kinds_by_told register t = λ i. fits_by_told Object t i && (is_some (kind_by_told register t i) && is_some (hardware_by_told register t i))
+
+-- a field takes other values than those that software writes twice
+abbrev pub takes_other : Data → Data → Bool
+takes_other register d = is_other_than_rw (kind_told register d) || is_written_by_hardware (hardware_told register d)
+
+takes_by_told : (register t : Tree) → takes_other_values (members_of register) t ≡ takes_other (told register) (told t)
+unfolding takes_other_values
+takes_by_told register t = λ i. is_other_than_rw (kind_by_told register t i) || is_written_by_hardware (hardware_by_told register t i)
+
+-- what is asked of a shadowed register has its form
+abbrev pub is_judged : Data → Bool
+is_judged d = fit_at_told (Boolean ∷ []) (codes "hwext") d && (fit_at_told (Items ∷ []) (codes "fields") d && list_all (kinds_good d) (elements_of (codes "fields") d))
+
+judged_by_told : (t : Tree) → can_be_judged (members_of t) ≡ is_judged (told t)
+unfolding can_be_judged
+judged_by_told t = λ i.
+    fit_at_by_told (Boolean ∷ []) (codes "hwext") t i
+    && (fit_at_by_told (Items ∷ []) (codes "fields") t i
+    && all_elements (kinds_are_told (members_of t)) (kinds_good (told t)) (codes "fields") t (kinds_by_told t) i)
+
+-- a register has no storage, or a field that takes other values
+abbrev pub has_other : Data → Bool
+has_other d = is_true_told (codes "hwext") d || list_any (takes_other d) (elements_of (codes "fields") d)
+
+any_told : (f : Tree → Bool) (g : Data → Bool) (ts : List Tree) → ((t : Tree) → f t ≡ g (told t)) → list_any f ts ≡ list_any g (map told ts)
+any_told f g [] same = refl
+any_told f g (t ∷ ts) same = λ i. same t i || any_told f g ts same i
+
+other_by_told : (t : Tree) → cannot_be_shadowed (members_of t) ≡ has_other (told t)
+unfolding cannot_be_shadowed
+other_by_told t = λ i.
+    true_by_told (codes "hwext") t i
+    || (any_told (takes_other_values (members_of t)) (takes_other (told t)) (elements (codes "fields") (members_of t)) (takes_by_told t)
+    ∙ ap (list_any (takes_other (told t))) (elements_told (codes "fields") t)) i
+
+-- a register that cannot be shadowed is not
+abbrev pub shadow_good : Data → Bool
+shadow_good d = cond (is_judged d && has_other d) (is_not_true (codes "shadowed") d) true
+
+none_of_shadow : (t : Tree) → is_none (shadow_outside (members_of t)) ≡ shadow_good (told t)
+unfolding shadow_outside
+none_of_shadow t =
+    none_where (can_be_judged (members_of t) && cannot_be_shadowed (members_of t)) (outside_if_true (members_of t) (codes "shadowed"))
+    ∙ (λ i. cond (judged_by_told t i && other_by_told t i) (none_of_true (codes "shadowed") t i) true)
+
+-- a register is not asynchronous or an alias, and not shadowed where it cannot be
 abbrev pub is_inside : Data → Bool
-is_inside d = is_not_true (codes "shadowed") d && (is_absent (codes "async") d && (is_absent (codes "sync") d && is_absent (codes "alias_target") d))
+is_inside d = shadow_good d && (is_absent (codes "async") d && (is_absent (codes "sync") d && is_absent (codes "alias_target") d))
 
 none_of_outside : (t : Tree) → is_none (register_outside (members_of t)) ≡ is_inside (told t)
 unfolding register_outside
 none_of_outside t =
-    none_by_both (outside_if_true (members_of t) (codes "shadowed")) _ _ _ (none_of_true (codes "shadowed") t)
+    none_by_both (shadow_outside (members_of t)) _ _ _ (none_of_shadow t)
     (none_by_both (outside_key (members_of t) (codes "async")) _ _ _ (none_of_key_outside (codes "async") t)
     (none_by_both (outside_key (members_of t) (codes "sync")) _ _ _ (none_of_key_outside (codes "sync") t) (none_of_key_outside (codes "alias_target") t)))
 
 -- ---- fields
-
--- the software kind that counts for a field
-abbrev pub kind_told : Data → Data → Option SwAccess
-kind_told register d =
-    option_map_or (λ e. option_and_then software (as_str e)) (get (codes "swaccess") d)
-    (option_map_or (λ e. option_and_then software (as_str e)) (get (codes "swaccess") register) (Some Nothing))
-
-software_told : (t : Tree) → option_and_then software (text_in t) ≡ option_and_then software (as_str (told t))
-software_told t = ap (option_and_then software) (text_told t)
-
-kind_by_told : (register t : Tree) → kind_that_counts (members_of register) (members_of t) ≡ kind_told (told register) (told t)
-unfolding kind_that_counts
-kind_by_told register t =
-    by_value_at (λ t. option_and_then software (text_in t)) (λ e. option_and_then software (as_str e)) _ software_told (codes "swaccess") t
-    ∙ ap (option_map_or (λ e. option_and_then software (as_str e)) (get (codes "swaccess") (told t)))
-    (by_value_at (λ t. option_and_then software (text_in t)) (λ e. option_and_then software (as_str e)) (Some Nothing) software_told (codes "swaccess") register)
 
 -- a multi-bit boolean has four bits and a plain kind
 abbrev pub mubi_good : Data → Data → Bool
@@ -142,22 +230,9 @@ fields_by_told t =
     by_value_at (λ t. option_map_or (list_all (fits Object)) (array_in t) false) objects_in false
     (λ t. mapped_objects (array_in t) ∙ ap (λ o. option_map_or (list_all is_object) o false) (array_told t)) (codes "fields") t
 
--- the key is absent, or its value has one of the forms
-abbrev pub fit_at_told : List Form → List ℕ → Data → Bool
-fit_at_told forms key d = option_map_or (fits_one_told forms) (get key d) true
-
--- the form of what stands at a key
-pub fit_at_by_told : (forms : List Form) (key : List ℕ) (t : Tree) → is_fit_at forms key (members_of t) ≡ fit_at_told forms key (told t)
-unfolding is_fit_at
-fit_at_by_told forms key t = by_value_at (fits_one forms) (fits_one_told forms) true (fits_one_by_told forms) key t
-
 -- how many elements a list has
 pub length_by_told : (key : List ℕ) (t : Tree) → length (elements key (members_of t)) ≡ length (elements_of key (told t))
 length_by_told key t = sym (length-map (elements key (members_of t)) told) ∙ ap length (elements_told key t)
-
--- the boolean at a key
-abbrev pub true_by_told : (key : List ℕ) (t : Tree) → unwrap_or (boolean_at key (members_of t)) false ≡ is_true_told key (told t)
-true_by_told key t = ap (λ o. unwrap_or o false) (boolean_at_told key t)
 
 -- copies of several fields, or with gates of their own
 abbrev pub is_apart : Data → Bool

@@ -10,32 +10,34 @@ use Rattle.serde_json.specs.Data.{Data, boolean, string}
 use Rattle.serde_json.specs.Find.{as_str, get}
 use Rattle.cg_desc.specs.declared.block.SwAccess.{SwAccess}
 use Rattle.cg_desc.specs.declared.block.SwAccess.TheVariants.{Nothing}
+use Rattle.cg_desc.specs.declared.block.HwAccess.TheVariants.{Hro}
 use Rattle.cg_hjson.specs.declared.tree.Tree.{Tree}
-use Rattle.cg_keys.specs.Forms.{is_name, is_one_of, name_limit, software}
-use Rattle.cg_keys.specs.Lookups.{software_at, text_at}
+use Rattle.cg_keys.specs.Forms.{hardware, is_name, is_one_of, name_limit, software}
+use Rattle.cg_keys.specs.Lookups.{hardware_at, software_at, text_at}
 use Rattle.cg_keys.specs.Table.{Key}
 use Rattle.cg_keys.specs.Values.{members_of}
 use Rattle.cg_keys.specs.declared.forms.Form.TheVariants.{Boolean, Name, Word}
-use Rattle.cg_keys.specs.declared.words.Words.TheVariants.{Software, Unknown}
+use Rattle.cg_keys.specs.declared.words.Words.{Words}
+use Rattle.cg_keys.specs.declared.words.Words.TheVariants.{Hardware, Software, Unknown}
 use Rattle.cg_blkread.specs.Bits.{width_of}
 use Rattle.cg_blkread.specs.Described.{field_desc, field_part, no_bits}
-use Rattle.cg_blkread.specs.Keys.{has_other_kind, has_other_width}
+use Rattle.cg_blkread.specs.Keys.{has_other_kind, has_other_width, is_other_than_rw, is_written_by_hardware}
 use Rattle.cg_blkread.specs.Raw.{boolean_or_number, filled_name, raw_field, shared_of}
 use Rattle.cg_blkread.specs.Tables.{field_keys}
 use Rattle.cg_blkread.specs.Values.{is_too_wide}
 use Rattle.cg_blkread.specs.declared.raw.Bits.{Bits}
 use Rattle.cg_blkread.specs.declared.raw.RawField.{RawField}
-use Rattle.cg_done.specs.Full.{bits_text, field_pairs, number_of, reset_of, said_with, software_word}
+use Rattle.cg_done.specs.Full.{bits_text, field_pairs, hardware_word, number_of, reset_of, said_with, software_word}
 use Rattle.cg_done.proofs.Bits.{AreBits, AreBitsIf, below, below_holds, bits_are, bits_back, number_back}
 use Rattle.cg_done.proofs.CompletedFields.{IsWord, reset_word}
 use Rattle.cg_done.proofs.Lookups.{bits_told_in, boolean_at_told, boolean_told_in, is_object, number_told_in, text_at_told}
 use Rattle.cg_done.proofs.SoundCompleted.{Puts, hardware_fits, has_put, name_fits, not_true_is, object_completed, object_of, only_form, software_fits, table_of, word_fits}
-use Rattle.cg_done.proofs.SoundEntries.{field_good, fit_at_told, is_not_true, is_true_told, kind_told, mubi_good}
+use Rattle.cg_done.proofs.SoundEntries.{field_good, fit_at_told, hardware_told, is_not_true, is_true_told, kind_by_word, kind_told, kinds_good, mubi_good, takes_other}
 use Rattle.cg_done.proofs.SoundNone.{not_false}
 use Rattle.cg_done.proofs.SoundTables.{fits_told, key_good, object_good, table_good}
 use Rattle.cg_done.proofs.SoundValues.{bits_by_told, is_narrow, own_bits, own_reset, own_reset_by_told}
 use Rattle.cg_done.proofs.Told.{told}
-use Rattle.cg_done.proofs.Words.{software_back}
+use Rattle.cg_done.proofs.Words.{hardware_back, software_back}
 
 -- ---- names
 
@@ -80,37 +82,56 @@ one_form key (Some e) h = only_form Name e h
 
 -- ---- kinds
 
-one_word : (o : Option Data) → option_map_or (λ e. fits_told (Word Software) e || false) o true ≡ true → option_map_or (fits_told (Word Software)) o true ≡ true
-one_word None h = refl
-one_word (Some e) h = only_form (Word Software) e h
+-- a word that has a form is one of the kind's words
+abbrev AreWordsOf : {K : Type 0} → Words → (List ℕ → Option K) → Type 0
+AreWordsOf words kinds = (s : List ℕ) → is_one_of words s ≡ is_some (kinds s)
+
+software_words : AreWordsOf Software software
+unfolding is_one_of
+software_words s = refl
+
+hardware_words : AreWordsOf Hardware hardware
+unfolding is_one_of
+hardware_words s = refl
+
+some_or : {K : Type 0} (k : Option K) (other : K) → is_some k ≡ true → k ≡ Some (unwrap_or k other)
+some_or None other h = absurd cc
+some_or (Some k) other h = refl
 
 -- the kind that a word is, or another
-kind_or : (e : Data) (other : SwAccess) → fits_told (Word Software) e ≡ true → option_and_then software (as_str e) ≡ Some (unwrap_or (option_and_then software (as_str e)) other)
-unfolding is_one_of
-kind_or e other h = by (as_str e) h where
-  by_kind : (k : Option SwAccess) → is_some k ≡ true → k ≡ Some (unwrap_or k other)
-  by_kind None h = absurd cc
-  by_kind (Some k) h = refl
+kind_or : {K : Type 0} (words : Words) (kinds : List ℕ → Option K) → AreWordsOf words kinds → (s : Option (List ℕ)) (other : K) → option_map_or (is_one_of words) s false ≡ true
+    → option_and_then kinds s ≡ Some (unwrap_or (option_and_then kinds s) other)
+kind_or words kinds are None other h = absurd cc
+kind_or words kinds are (Some s) other h = some_or (kinds s) other (sym (are s) ∙ h)
 
-  by : (s : Option (List ℕ)) → option_map_or (is_one_of Software) s false ≡ true → option_and_then software s ≡ Some (unwrap_or (option_and_then software s) other)
-  by None h = absurd cc
-  by (Some s) h = by_kind (software s) h
+kind_by : {K : Type 0} (words : Words) (kinds : List ℕ → Option K) → AreWordsOf words kinds → (o : Option Data) (other : K)
+    → option_map_or (λ e. fits_told (Word words) e || false) o true ≡ true
+    → option_map_or (λ e. option_and_then kinds (as_str e)) o (Some other) ≡ Some (unwrap_or (option_and_then kinds (option_and_then as_str o)) other)
+kind_by words kinds are None other h = refl
+kind_by words kinds are (Some e) other h = kind_or words kinds are (as_str e) other (only_form (Word words) e h)
 
-kind_by : (o : Option Data) (other : SwAccess) → option_map_or (fits_told (Word Software)) o true ≡ true
-    → option_map_or (λ e. option_and_then software (as_str e)) o (Some other) ≡ Some (unwrap_or (option_and_then software (option_and_then as_str o)) other)
-kind_by None other h = refl
-kind_by (Some e) other h = kind_or e other h
+counts_by : {K : Type 0} (words : Words) (kinds : List ℕ → Option K) → AreWordsOf words kinds → (otherwise : K) (key : List ℕ) (register t : Tree)
+    → fit_at_told (Word words ∷ []) key (told register) ≡ true → fit_at_told (Word words ∷ []) key (told t) ≡ true
+    → kind_by_word kinds otherwise key (told register) (told t)
+    ≡ Some (unwrap_or (option_and_then kinds (text_at key (members_of t))) (unwrap_or (option_and_then kinds (text_at key (members_of register))) otherwise))
+counts_by words kinds are otherwise key register t first second =
+    ap (option_map_or (λ e. option_and_then kinds (as_str e)) (get key (told t)))
+    (kind_by words kinds are (get key (told register)) otherwise first
+    ∙ ap (λ o. Some (unwrap_or (option_and_then kinds o) otherwise)) (sym (text_at_told key register)))
+    ∙ kind_by words kinds are (get key (told t)) _ second
+    ∙ ap (λ o. Some (unwrap_or (option_and_then kinds o) (unwrap_or (option_and_then kinds (text_at key (members_of register))) otherwise))) (sym (text_at_told key t))
 
 -- the kind that counts for a field is the one that it has
 pub kind_counts : (register t : Tree) (n : ℕ) → fit_at_told (Word Software ∷ []) (codes "swaccess") (told register) ≡ true
     → fit_at_told (Word Software ∷ []) (codes "swaccess") (told t) ≡ true → kind_told (told register) (told t) ≡ Some (raw_field (shared_of (members_of register)) n t).sw
 unfolding raw_field shared_of software_at
-kind_counts register t n first second =
-    ap (option_map_or (λ e. option_and_then software (as_str e)) (get (codes "swaccess") (told t)))
-    (kind_by (get (codes "swaccess") (told register)) Nothing (one_word (get (codes "swaccess") (told register)) first)
-    ∙ ap (λ o. Some (unwrap_or (option_and_then software o) Nothing)) (sym (text_at_told (codes "swaccess") register)))
-    ∙ kind_by (get (codes "swaccess") (told t)) _ (one_word (get (codes "swaccess") (told t)) second)
-    ∙ ap (λ o. Some (unwrap_or (option_and_then software o) (unwrap_or (option_and_then software (text_at (codes "swaccess") (members_of register))) Nothing))) (sym (text_at_told (codes "swaccess") t))
+kind_counts register t n first second = counts_by Software software software_words Nothing (codes "swaccess") register t first second
+
+-- so is the hardware kind
+hardware_counts : (register t : Tree) (n : ℕ) → fit_at_told (Word Hardware ∷ []) (codes "hwaccess") (told register) ≡ true
+    → fit_at_told (Word Hardware ∷ []) (codes "hwaccess") (told t) ≡ true → hardware_told (told register) (told t) ≡ Some (raw_field (shared_of (members_of register)) n t).hw
+unfolding raw_field shared_of hardware_at
+hardware_counts register t n first second = counts_by Hardware hardware hardware_words Hro (codes "hwaccess") register t first second
 
 -- ---- one field
 
@@ -142,6 +163,7 @@ pub record FieldIsGood (register t : Tree) : Type 0 where
 pub record HeadIsGood (register : Tree) : Type 0 where
   pub name : is_name name_limit (shared_of (members_of register)).name ≡ true
   pub kind : fit_at_told (Word Software ∷ []) (codes "swaccess") (told register) ≡ true
+  pub hardware_kind : fit_at_told (Word Hardware ∷ []) (codes "hwaccess") (told register) ≡ true
 
 module _ (register t : Tree) (rv : Option ℕ) (n : ℕ) (word : IsWord rv) (low : n ≤ 33) (head : HeadIsGood register) (field : FieldIsGood register t) where
   abbrev raw : RawField
@@ -177,6 +199,11 @@ module _ (register t : Tree) (rv : Option ℕ) (n : ℕ) (word : IsWord rv) (low
   kind_row : fit_at_told (Word Software ∷ []) (codes "swaccess") (told t) ≡ true
   kind_row = may_fit (record { key = codes "swaccess"; forms = Word Software ∷ []; needed = false }) (get (codes "swaccess") (told t)) (and_parts _ _ (and_parts _ _ (and_parts _ _ table).1).1).0
 
+  hardware_row : fit_at_told (Word Hardware ∷ []) (codes "hwaccess") (told t) ≡ true
+  hardware_row =
+      may_fit (record { key = codes "hwaccess"; forms = Word Hardware ∷ []; needed = false }) (get (codes "hwaccess") (told t))
+      (and_parts _ _ (and_parts _ _ (and_parts _ _ (and_parts _ _ table).1).1).1).0
+
   puts : Puts field_keys (field_pairs rv raw)
   unfolding field_pairs
   puts = (
@@ -202,6 +229,24 @@ module _ (register t : Tree) (rv : Option ℕ) (n : ℕ) (word : IsWord rv) (low
       ap (λ o. option_map_or (λ e. option_and_then software (as_str e)) o (option_map_or (λ e. option_and_then software (as_str e)) (get (codes "swaccess") any) (Some Nothing)))
       (has_put (codes "swaccess") (field_pairs rv raw) (told t) (string (software_word raw.sw)) field.is refl)
       ∙ software_back raw.sw
+
+  full_hardware : (any : Data) → hardware_told any full ≡ Some raw.hw
+  unfolding field_pairs
+  full_hardware any =
+      ap (λ o. option_map_or (λ e. option_and_then hardware (as_str e)) o (option_map_or (λ e. option_and_then hardware (as_str e)) (get (codes "hwaccess") any) (Some Hro)))
+      (has_put (codes "hwaccess") (field_pairs rv raw) (told t) (string (hardware_word raw.hw)) field.is refl)
+      ∙ hardware_back raw.hw
+
+  -- the kinds that count for it have their forms
+  pub kinds_fit : kinds_good (told register) (told t) ≡ true
+  kinds_fit = λ i. field.is i && (is_some (kind_counts register t n head.kind kind_row i) && is_some (hardware_counts register t n head.hardware_kind hardware_row i))
+
+  -- it takes other values where the field did
+  pub full_takes : (any : Data) → takes_other any full ≡ takes_other (told register) (told t)
+  full_takes any =
+      (λ i. is_other_than_rw (full_kind any i) || is_written_by_hardware (full_hardware any i))
+      ∙ (λ i. is_other_than_rw (sym (kind_counts register t n head.kind kind_row) i)
+      || is_written_by_hardware (sym (hardware_counts register t n head.hardware_kind hardware_row) i))
 
   full_mubi : is_not_true (codes "mubi") full ≡ not raw.mubi
   unfolding field_pairs

@@ -1,32 +1,34 @@
 -- A completed register breaks no rule.
-use Rattle.std.proofs.Common.{◌≡◌, ℕ, ◌+◌, ◌≤◌, true, false, not, ◌&&◌, cond, is_some, length, codes, List, [], ◌∷◌, map, Option, Some, None, option_map, option_and_then, unwrap_or, arith, refl, sym, ap, ◌∙◌}
+use Rattle.std.proofs.Common.{◌≡◌, ℕ, ◌+◌, ◌≤◌, true, false, not, ◌&&◌, ◌||◌, cond, is_some, inl, inr, length, codes, List, [], ◌∷◌, ◌++◌, map, Option, Some, None, option_map, option_and_then, unwrap_or, arith, refl, sym, ap, ◌∙◌}
 use Rattle.std.proofs.lemmas.Bool.{and_parts}
 use Rattle.std.proofs.lemmas.List.{length-map}
-use Rattle.std.specs.List.{list_all}
+use Rattle.std.specs.List.{list_all, list_any}
 use Rattle.std.specs.Option.{option_map_or}
-use Rattle.serde_json.specs.Data.{Data}
+use Rattle.serde_json.specs.Data.{Data, boolean}
 use Rattle.serde_json.specs.Find.{as_str, get}
+use Rattle.cg_finding.specs.Finding.{Among}
 use Rattle.cg_hjson.specs.declared.tree.Tree.{Tree}
 use Rattle.cg_hjson.specs.declared.tree.Member.{Member}
 use Rattle.cg_keys.specs.Elements.{elements}
 use Rattle.cg_keys.specs.Forms.{is_name, name_limit, or_else}
 use Rattle.cg_keys.specs.Table.{Key, may, needs}
 use Rattle.cg_keys.specs.Values.{members_of}
-use Rattle.cg_keys.specs.declared.forms.Form.TheVariants.{Name, Word}
-use Rattle.cg_keys.specs.declared.words.Words.TheVariants.{Software}
-use Rattle.cg_blkread.specs.Raw.{boolean_or_number, raw_field, register_reset, shared_of, text_or_empty}
+use Rattle.cg_keys.specs.declared.forms.Form.TheVariants.{Boolean, Items, Name, Word}
+use Rattle.cg_keys.specs.declared.words.Words.TheVariants.{Hardware, Software}
+use Rattle.cg_blkread.specs.Raw.{boolean_or_number, is_true, raw_field, register_reset, shared_of, text_or_empty}
+use Rattle.cg_blkread.specs.Tables.{register_keys}
 use Rattle.cg_blkread.specs.declared.raw.Bits.{Bits}
 use Rattle.cg_done.specs.Full.{Pair, field_pairs, full_fields, list_of, number_of, with_all}
 use Rattle.cg_done.proofs.Bits.{number_back}
 use Rattle.cg_done.proofs.FieldLists.{listed_items}
 use Rattle.cg_done.proofs.CompletedFields.{IsWord}
-use Rattle.cg_done.proofs.Lookups.{boolean_told_in, elements_told, found_in_completed, is_object, items_told_at, number_told_in, object_stays, text_at_told}
+use Rattle.cg_done.proofs.Lookups.{boolean_at_told, boolean_told_in, elements_told, found_in_completed, is_object, items_told_at, number_told_in, object_stays, text_at_told}
 use Rattle.cg_done.proofs.Puts.{last_at}
 use Rattle.cg_done.proofs.Registers.{register_word}
-use Rattle.cg_done.proofs.SoundCompleted.{Puts, has_put, keeps, object_completed, only_form, table_of}
-use Rattle.cg_done.proofs.SoundEntries.{field_good, is_absent, is_inside, is_not_true, register_good}
+use Rattle.cg_done.proofs.SoundCompleted.{Puts, has_put, keeps, not_true_is, object_completed, only_form, table_of}
+use Rattle.cg_done.proofs.SoundEntries.{field_good, fit_at_told, has_other, is_absent, is_inside, is_judged, is_true_told, kinds_good, register_good, shadow_good, takes_other}
 use Rattle.cg_done.proofs.SoundFew.{AllBits, few_bits}
-use Rattle.cg_done.proofs.SoundFields.{FieldIsGood, HeadIsGood, bits_if, field_completed, full_bits, full_narrow, may_fit}
+use Rattle.cg_done.proofs.SoundFields.{FieldIsGood, HeadIsGood, bits_if, field_completed, full_bits, full_narrow, full_takes, kinds_fit, may_fit}
 use Rattle.cg_done.proofs.SoundTables.{elements_of, key_good, object_good, table_good}
 use Rattle.cg_done.proofs.SoundValues.{are_apart, has_some, is_narrow, own_bits, register_values_good, reset_by_told, reset_told, strays}
 use Rattle.cg_done.proofs.Told.{told}
@@ -73,6 +75,17 @@ module _ (register : Tree) (rv : Option ℕ) (word : IsWord rv) (head : HeadIsGo
   good_full any n (t ∷ ts) low all = λ i.
       field_completed register t rv n word (omega (arith, low)) head all.0 any i && good_full any (n + 1) ts (omega (arith, low)) all.1 i
 
+  kinds_full : (n : ℕ) (ts : List Tree) → n + length ts ≤ 34 → AllFields register ts → list_all (kinds_good (told register)) (map told ts) ≡ true
+  kinds_full n [] low all = refl
+  kinds_full n (t ∷ ts) low all = λ i. kinds_fit register t rv n word (omega (arith, low)) head all.0 i && kinds_full (n + 1) ts (omega (arith, low)) all.1 i
+
+  takes_full : (any : Data) (n : ℕ) (ts : List Tree) → n + length ts ≤ 34 → AllFields register ts
+      → list_any (takes_other any) (fulls n ts) ≡ list_any (takes_other (told register)) (map told ts)
+  unfolding full_fields
+  takes_full any n [] low all = refl
+  takes_full any n (t ∷ ts) low all = λ i.
+      full_takes register t rv n word (omega (arith, low)) head all.0 any i || takes_full any (n + 1) ts (omega (arith, low)) all.1 i
+
   bits_full : (n : ℕ) (ts : List Tree) → n + length ts ≤ 34 → AllFields register ts → map own_bits (fulls n ts) ≡ map own_bits (map told ts)
   unfolding full_fields
   bits_full n [] low all = refl
@@ -95,19 +108,28 @@ name_needed (Some e) h = by (as_str e) (only_form Name e h) where
   by None h = absurd cc
   by (Some s) h = h
 
--- the rows of a register, of which the first two are these
+-- the rows of a register, and more
 abbrev pub rows : List Key → List Key
-rows more = needs (codes "name") (Name ∷ []) ∷ may (codes "swaccess") (Word Software ∷ []) ∷ more
+rows more = register_keys ++ more
+
+-- what a row asks
+row_good : (ks : List Key) (k : Key) (d : Data) → Among k ks → table_good ks d ≡ true → key_good k (get k.key d) ≡ true
+row_good [] k d among good = absurd among
+row_good (j ∷ ks) k d (inl is) good = ap (λ l. key_good l (get l.key d)) is ∙ (and_parts (key_good j (get j.key d)) (table_good ks d) good).0
+row_good (j ∷ ks) k d (inr among) good = row_good ks k d among (and_parts (key_good j (get j.key d)) (table_good ks d) good).1
+
+-- what stands at the key of a row, if anything, has one of its forms
+row_fits : (more : List Key) (k : Key) (d : Data) → Among k (rows more) → table_good (rows more) d ≡ true → fit_at_told k.forms k.key d ≡ true
+row_fits more k d among good = may_fit k (get k.key d) (row_good (rows more) k d among good)
 
 head_is_good : (t : Tree) (more : List Key) → table_good (rows more) (told t) ≡ true → HeadIsGood t
 unfolding shared_of
-head_is_good t more table =
-    let first = and_parts (key_good (needs (codes "name") (Name ∷ [])) (get (codes "name") (told t))) (table_good (may (codes "swaccess") (Word Software ∷ []) ∷ more) (told t)) table in
-    let second = and_parts (key_good (may (codes "swaccess") (Word Software ∷ [])) (get (codes "swaccess") (told t))) (table_good more (told t)) first.1 in
-    record {
-      name = ap (λ o. is_name name_limit (text_or_empty o)) (text_at_told (codes "name") t) ∙ name_needed (get (codes "name") (told t)) first.0;
-      kind = may_fit (may (codes "swaccess") (Word Software ∷ [])) (get (codes "swaccess") (told t)) second.0;
-    }
+head_is_good t more table = record {
+  name = ap (λ o. is_name name_limit (text_or_empty o)) (text_at_told (codes "name") t)
+      ∙ name_needed (get (codes "name") (told t)) (row_good (rows more) (needs (codes "name") (Name ∷ [])) (told t) (inl refl) table);
+  kind = row_fits more (may (codes "swaccess") (Word Software ∷ [])) (told t) (inr (inl refl)) table;
+  hardware_kind = row_fits more (may (codes "hwaccess") (Word Hardware ∷ [])) (told t) (inr (inr (inl refl))) table;
+}
 
 -- ---- registers
 
@@ -116,7 +138,8 @@ pub record RegisterPut (ks : List Key) (ps : List Pair) (ms : List Member) (rese
   pub puts : Puts ks ps
   pub fields : last_at (codes "fields") ps ≡ Some (list_of (full_fields (shared_of ms) (register_reset ms) 1 (elements (codes "fields") ms)))
   pub resval : last_at (codes "resval") ps ≡ option_map number_of reset
-  pub shadowed : last_at (codes "shadowed") ps ≡ None
+  pub hwext : last_at (codes "hwext") ps ≡ Some (boolean (is_true (codes "hwext") ms))
+  pub shadowed : last_at (codes "shadowed") ps ≡ Some (boolean (is_true (codes "shadowed") ms))
   pub async : last_at (codes "async") ps ≡ None
   pub sync : last_at (codes "sync") ps ≡ None
   pub alias_target : last_at (codes "alias_target") ps ≡ None
@@ -204,15 +227,38 @@ module _ (t : Tree) (more : List Key) (ps : List Pair) (is : is_object (told t) 
   same_absent : (key : List ℕ) → last_at key ps ≡ None → is_absent key full ≡ is_absent key d
   same_absent key none = ap (λ o. option_map_or (λ (e : Data). false) o true) (keeps key ps d is none)
 
-  same_not_true : (key : List ℕ) → last_at key ps ≡ None → is_not_true key full ≡ is_not_true key d
-  same_not_true key none =
-      ap (λ o. cond (unwrap_or (option_and_then boolean_told_in o) false) (option_map_or (λ (e : Data). false) o true) true) (keeps key ps d is none)
+  -- ---- shadowed registers
+
+  full_true : (key : List ℕ) → last_at key ps ≡ Some (boolean (is_true key (members_of t))) → is_true_told key full ≡ is_true_told key d
+  full_true key put =
+      ap (λ o. unwrap_or (option_and_then boolean_told_in o) false) (has_put key ps d (boolean (is_true key (members_of t))) is put) ∙ ap (λ o. unwrap_or o false) (boolean_at_told key t)
+
+  same_other : has_other full ≡ has_other d
+  same_other = λ i.
+      full_true (codes "hwext") put.hwext i
+      || (ap (list_any (takes_other full)) full_elements ∙ takes_full t rv (register_word (members_of t)) head full 1 ts few all
+      ∙ ap (list_any (takes_other d)) ts_told) i
+
+  judged : is_judged d ≡ true
+  judged = λ i.
+      row_fits more (may (codes "hwext") (Boolean ∷ [])) d (inr (inr (inr (inl refl)))) table i
+      && (row_fits more (needs (codes "fields") (Items ∷ [])) d (inr (inr (inr (inr (inr (inr (inr (inr (inr (inl refl)))))))))) table i
+      && (sym (ap (list_all (kinds_good d)) ts_told) ∙ kinds_full t rv (register_word (members_of t)) head 1 ts few all) i)
+
+  shadow_by : (is_judged_full other shadowed : Bool) → cond (true && other) (not shadowed) true ≡ true → cond (is_judged_full && other) (not shadowed) true ≡ true
+  shadow_by true other shadowed h = h
+  shadow_by false other shadowed h = refl
+
+  shadow_stays : shadow_good full ≡ true
+  shadow_stays =
+      (λ i. cond (is_judged full && same_other i) ((not_true_is (codes "shadowed") full ∙ ap not (full_true (codes "shadowed") put.shadowed)) i) true)
+      ∙ shadow_by (is_judged full) (has_other d) (is_true_told (codes "shadowed") d)
+      ((λ i. cond (sym judged i && has_other d) (sym (not_true_is (codes "shadowed") d) i) true) ∙ (and_parts (shadow_good d) _ outside).0)
 
   inside : is_inside full ≡ true
   inside =
-      (λ i. same_not_true (codes "shadowed") put.shadowed i
-      && (same_absent (codes "async") put.async i && (same_absent (codes "sync") put.sync i && same_absent (codes "alias_target") put.alias_target i)))
-      ∙ outside
+      (λ i. shadow_stays i && (same_absent (codes "async") put.async i && (same_absent (codes "sync") put.sync i && same_absent (codes "alias_target") put.alias_target i)))
+      ∙ (and_parts (shadow_good d) _ outside).1
 
   -- no rule on keys
   pub register_keys_stay : register_good (rows more) full ≡ true

@@ -119,6 +119,7 @@ register_pairs ms =
     ∷ pair (codes "hwext") (boolean (is_true (codes "hwext") ms))
     ∷ pair (codes "hwqe") (boolean (is_true (codes "hwqe") ms))
     ∷ pair (codes "hwre") (boolean (is_true (codes "hwre") ms))
+    ∷ pair (codes "shadowed") (boolean (is_true (codes "shadowed") ms))
     ∷ pair (codes "fields") (list_of (full_fields (shared_of ms) (register_reset ms) 1 (elements (codes "fields") ms)))
     ∷ reset_if ms
 

@@ -28,6 +28,7 @@ register_unplaced r = record {
   hwext = r.hwext;
   hwqe = r.hwqe;
   hwre = r.hwre;
+  shadowed = r.shadowed;
   at = start;
 }
 

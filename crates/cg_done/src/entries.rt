@@ -32,6 +32,12 @@ fn with_register(alloc: Global, value: Value, tree: &Tree) -> Result<Value, Memo
     let value = with(alloc, value, "hwext", truth(is_true(members, "hwext")))?;
     let value = with(alloc, value, "hwqe", truth(is_true(members, "hwqe")))?;
     let value = with(alloc, value, "hwre", truth(is_true(members, "hwre")))?;
+    let value = with(
+        alloc,
+        value,
+        "shadowed",
+        truth(is_true(members, "shadowed")),
+    )?;
     let value = with(alloc, value, "fields", register_fields(alloc, tree)?)?;
     let value = with_number_if(alloc, value, "resval", register_reset(members))?;
     Ok(value)

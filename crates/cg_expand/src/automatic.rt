@@ -128,6 +128,7 @@ fn automatic_register(
         hwext,
         hwqe: false,
         hwre: false,
+        shadowed: false,
         at,
     }))
 }

@@ -166,6 +166,7 @@ pub fn multireg_word(alloc: Global, multireg: &MultiDesc, number: u32) -> Result
         hwext: register.hwext,
         hwqe: register.hwqe,
         hwre: register.hwre,
+        shadowed: register.shadowed,
         at: register.at,
     })
 }

@@ -61,6 +61,7 @@ fn copy_register(alloc: Global, register: &RegDesc) -> Result<RegDesc, Memory>
         hwext: register.hwext,
         hwqe: register.hwqe,
         hwre: register.hwre,
+        shadowed: register.shadowed,
         at: register.at,
     })
 }

@@ -34,7 +34,8 @@ fn show_register(register: &RegDesc, out: &mut String) -> Result<(), AllocError>
     let ext = flag(register.hwext, " ext");
     let qe = flag(register.hwqe, " qe");
     let re = flag(register.hwre, " re");
-    write!(out, "{ext}{qe}{re}")?;
+    let shadowed = flag(register.shadowed, " shadowed");
+    write!(out, "{ext}{qe}{re}{shadowed}")?;
     for field in register.fields.as_slice() {
         show_field(field, out)?;
     }

@@ -21,6 +21,9 @@ fn show_register(out: &mut String, register: &RegDesc) -> Result<(), AllocError>
     if register.hwext {
         write!(out, " external")?;
     }
+    if register.shadowed {
+        write!(out, " shadowed")?;
+    }
     for field in register.fields.as_slice() {
         show_field(out, field)?;
     }

@@ -21,6 +21,7 @@ fn told<R: Files>(rt: &R, alloc: Global) -> Result<String, Memory> {
     let mut tables = Tables::new(rt, alloc);
     tables.tell("read_blocks.txt", reading::answer)?;
     tables.tell("read_entries.txt", reading::answer_for_entries)?;
+    tables.tell("read_shadowed.txt", reading::answer_for_entries)?;
     tables.tell("read_keys.txt", reading::answer_for_keys)?;
     tables.tell("described_blocks.txt", described::answer)?;
     tables.tell("described_entries.txt", described::answer_for_entries)?;

@@ -36,7 +36,7 @@ items_unplaced face = record { items = map item_unplaced face.items }
 
 -- the register with these fields
 abbrev pub with_fields : RegDesc → List FieldDesc → RegDesc
-with_fields r fs = record { name = r.name; fields = fs; regwen = r.regwen; regwen_at = r.regwen_at; hwext = r.hwext; hwqe = r.hwqe; hwre = r.hwre; at = r.at }
+with_fields r fs = record { name = r.name; fields = fs; regwen = r.regwen; regwen_at = r.regwen_at; hwext = r.hwext; hwqe = r.hwqe; hwre = r.hwre; shadowed = r.shadowed; at = r.at }
 
 -- ---- registers that come of themselves
 
@@ -53,7 +53,7 @@ alert_fields_are lsb (a ∷ as') = ap (λ fs. automatic_field a.name lsb 1 Wo Hr
 
 -- a register of these fields and no places
 abbrev sole : List ℕ → Bool → List FieldDesc → Item
-sole name hwext fields = Reg (record { name = name; fields = fields; regwen = None; regwen_at = start; hwext = hwext; hwqe = false; hwre = false; at = start })
+sole name hwext fields = Reg (record { name = name; fields = fields; regwen = None; regwen_at = start; hwext = hwext; hwqe = false; hwre = false; shadowed = false; at = start })
 
 interrupt_registers_are : (b : BlockDesc) → interrupt_registers (block_unplaced b) ≡ map item_unplaced (interrupt_registers b)
 unfolding interrupt_registers block_unplaced
@@ -134,6 +134,7 @@ multireg_word_is m j = λ k. record {
   hwext = m.reg.hwext;
   hwqe = m.reg.hwqe;
   hwre = m.reg.hwre;
+  shadowed = m.reg.shadowed;
   at = start;
 }
 

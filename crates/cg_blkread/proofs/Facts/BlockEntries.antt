@@ -15,12 +15,13 @@ use Rattle.cg_blkread.specs.Facts.Keys.{BreaksKeys, HasForms, HasTable, ListsOnl
 use Rattle.cg_blkread.specs.Facts.Parts.{HasAt, HasNot, IsEntry, IsEntryList, IsFieldOf, IsMultireg, IsRegister, IsReservation, IsSingle, IsSkip, IsWindow}
 use Rattle.cg_blkread.specs.Facts.Profile.{BreaksProfile}
 use Rattle.cg_blkread.specs.Interfaces.{EntryList, entry_lists}
-use Rattle.cg_blkread.specs.Keys.{compact_outside, entry_faults, entry_kind_faults, entry_list_faults, field_faults, key_faults, mubi_outside, multireg_faults, outside_key, outside_if_true, register_faults, register_outside, window_faults}
+use Rattle.cg_blkread.specs.Keys.{compact_outside, entry_faults, entry_kind_faults, entry_list_faults, field_faults, key_faults, mubi_outside, multireg_faults, outside_key, register_faults, register_outside, shadow_outside, window_faults}
 use Rattle.cg_blkread.specs.Reads.{BreaksShape}
 use Rattle.cg_blkread.specs.Tables.{copy_keys, field_keys, register_keys, window_keys, word_number}
 use Rattle.cg_blkread.proofs.Facts.BlockKeys.{PartOf, part_listed}
 use Rattle.cg_blkread.proofs.Facts.Entries.{Kind, has_object, is_listed, kind_of, listed_is}
-use Rattle.cg_blkread.proofs.Facts.Registers.{compact_tells, element_tells, in_looked, list_tells, looked_has, mubi_tells, object_tells, outside_tells, true_tells, value_tells}
+use Rattle.cg_blkread.proofs.Facts.Registers.{compact_tells, element_tells, in_looked, list_tells, looked_has, mubi_tells, object_tells, outside_tells, value_tells}
+use Rattle.cg_blkread.proofs.Facts.Shadowed.{shadow_tells}
 
 -- ---- registers
 
@@ -32,7 +33,7 @@ body_faults r =
 
 -- the parts of it
 pub data BodyPart (r : Tree) (f : Finding) : Type 0 where
-  shadowed : In f (outside_if_true (members_of r) (codes "shadowed")) → BodyPart r f
+  shadowed : In f (shadow_outside (members_of r)) → BodyPart r f
   asynchronous : In f (outside_key (members_of r) (codes "async")) → BodyPart r f
   synchronous : In f (outside_key (members_of r) (codes "sync")) → BodyPart r f
   alias : In f (outside_key (members_of r) (codes "alias_target")) → BodyPart r f
@@ -44,7 +45,7 @@ unfolding body_faults register_outside
 body_part r f among =
     let ms : List Member = members_of r in
     elim (in_either f (register_outside ms) _ among) [
-      | inl a ↦ elim (in_either f (outside_if_true ms (codes "shadowed")) _ a) [
+      | inl a ↦ elim (in_either f (shadow_outside ms) _ a) [
         | inl h ↦ shadowed h
         | inr b ↦ elim (in_either f (outside_key ms (codes "async")) _ b) [
           | inl h ↦ asynchronous h
@@ -64,13 +65,13 @@ part_of_body r f part = by part where
   ms = members_of r
 
   by : BodyPart r f → In f (body_faults r)
-  by (shadowed h) = in_left f (register_outside ms) _ (in_left f (outside_if_true ms (codes "shadowed")) _ h)
-  by (asynchronous h) = in_left f (register_outside ms) _ (in_right f (outside_if_true ms (codes "shadowed")) _ (in_left f (outside_key ms (codes "async")) _ h))
+  by (shadowed h) = in_left f (register_outside ms) _ (in_left f (shadow_outside ms) _ h)
+  by (asynchronous h) = in_left f (register_outside ms) _ (in_right f (shadow_outside ms) _ (in_left f (outside_key ms (codes "async")) _ h))
   by (synchronous h) =
-      in_left f (register_outside ms) _ (in_right f (outside_if_true ms (codes "shadowed")) _ (in_right f (outside_key ms (codes "async")) _
+      in_left f (register_outside ms) _ (in_right f (shadow_outside ms) _ (in_right f (outside_key ms (codes "async")) _
       (in_left f (outside_key ms (codes "sync")) (outside_key ms (codes "alias_target")) h)))
   by (alias h) =
-      in_left f (register_outside ms) _ (in_right f (outside_if_true ms (codes "shadowed")) _ (in_right f (outside_key ms (codes "async")) _
+      in_left f (register_outside ms) _ (in_right f (shadow_outside ms) _ (in_right f (outside_key ms (codes "async")) _
       (in_right f (outside_key ms (codes "sync")) (outside_key ms (codes "alias_target")) h)))
   by (elements_at h) = in_right f (register_outside ms) _ (in_left f (element_faults (codes "fields") ms) _ h)
   by (field g is h) =
@@ -89,8 +90,8 @@ field_tells t r g f is own among =
 body_tells : (t r : Tree) (f : Finding) → IsRegister t r → In f (body_faults r) → BreaksShape t f
 body_tells t r f is among = by (body_part r f among) where
   by : BodyPart r f → BreaksShape t f
-  by (shadowed h) = let told = true_tells (codes "shadowed") r f h in
-      BreaksShape.profile (subst (BreaksProfile t) (sym told.says) (BreaksProfile.shadowed r told.value is told.there))
+  by (shadowed h) = let told = shadow_tells r f h in
+      BreaksShape.profile (subst (BreaksProfile t) (sym told.told.says) (BreaksProfile.shadowed r told.told.value is told.told.there told.judged told.cannot))
   by (asynchronous h) = let told = outside_tells (codes "async") r f h in
       BreaksShape.profile (subst (BreaksProfile t) (sym told.says) (BreaksProfile.asynchronous r told.value is told.there))
   by (synchronous h) = let told = outside_tells (codes "sync") r f h in

@@ -25,7 +25,8 @@ use Rattle.cg_blkread.proofs.Facts.BlockKeys.{PartOf, lengths_have, lengths_tell
 use Rattle.cg_blkread.proofs.Facts.BlockValues.{values_have, values_tell}
 use Rattle.cg_blkread.proofs.Facts.Entries.{has_object}
 use Rattle.cg_blkread.proofs.Facts.Interfaces.{interfaces_have, interfaces_tell}
-use Rattle.cg_blkread.proofs.Facts.Registers.{compact_has, element_has, list_has, mubi_has, object_has, outside_has, true_has, value_has}
+use Rattle.cg_blkread.proofs.Facts.Registers.{compact_has, element_has, list_has, mubi_has, object_has, outside_has, value_has}
+use Rattle.cg_blkread.proofs.Facts.Shadowed.{shadow_has}
 
 -- ---- what is listed is a fact
 
@@ -105,8 +106,8 @@ unfolding field_faults multireg_faults
 profile_has t _ (BreaksProfile.width value n there is other) = part_listed t _ (PartOf.width (width_has t value n there is other))
 profile_has t _ (BreaksProfile.protocol i value word among there is other) =
     part_listed t _ (PartOf.protocols (flat_map_has protocol_outside (interfaces (members_of t)) i _ among (protocol_has i value word there is other)))
-profile_has t _ (BreaksProfile.shadowed r value is there) =
-    key_found t r value (codes "shadowed") _ is there.0 (BodyPart.shadowed (true_has (codes "shadowed") r value there))
+profile_has t _ (BreaksProfile.shadowed r value is there judged cannot) =
+    key_found t r value (codes "shadowed") _ is there.0 (BodyPart.shadowed (shadow_has r value there judged cannot))
 profile_has t _ (BreaksProfile.asynchronous r value is there) =
     key_found t r value (codes "async") _ is there (BodyPart.asynchronous (outside_has (codes "async") r value there))
 profile_has t _ (BreaksProfile.synchronous r value is there) =

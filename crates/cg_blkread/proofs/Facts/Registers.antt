@@ -23,7 +23,7 @@ use Rattle.cg_keys.specs.declared.forms.Form.TheVariants.{Boolean, Object}
 use Rattle.cg_keys.proofs.Relation.{in_table_faults, table_faults_has}
 use Rattle.cg_blkread.specs.Bits.{bits_in, width_of}
 use Rattle.cg_blkread.specs.Facts.Parts.{HasAt, HasTrueAt}
-use Rattle.cg_blkread.specs.Facts.Profile.{CannotBeCompact, GatesAreTold, HasFields, HasOtherKind, HasOtherWidth, IsKind, KindCounts, own, of_register, neither}
+use Rattle.cg_blkread.specs.Facts.Profile.{CannotBeCompact, Counts, HasFields, HasOtherKind, HasOtherWidth, IsBooleanIfAny, IsWordOf, SoftwareCounts, own, of_register, neither}
 use Rattle.cg_blkread.specs.Keys.{compact_outside, fields_are_objects, has_other_kind, has_other_width, kind_that_counts, mubi_outside, outside_if_true, outside_key, takes_mubi}
 use Rattle.cg_blkread.specs.declared.raw.Bits.{Bits}
 use Rattle.cg_blkread.proofs.Facts.Values.{is_none, none_is}
@@ -64,7 +64,7 @@ unfolding boolean_at
 true_in key t value there h =
     is_true (boolean_in value) (subst (λ (o : Option Tree). unwrap_or (option_and_then boolean_in o) false ≡ true) there h)
 
-true_at : (key : List ℕ) (t value : Tree) → HasTrueAt key t value → unwrap_or (boolean_at key (members_of t)) false ≡ true
+pub true_at : (key : List ℕ) (t value : Tree) → HasTrueAt key t value → unwrap_or (boolean_at key (members_of t)) false ≡ true
 unfolding boolean_at
 true_at key t value (there, is) = rw (there, is) refl
 
@@ -122,7 +122,7 @@ fits_object : (t : Tree) → fits Object t ≡ false → object_in t ≡ None
 unfolding fits
 fits_object t h = is_none (object_in t) h
 
-object_unfit : (t : Tree) → object_in t ≡ None → fits Object t ≡ false
+pub object_unfit : (t : Tree) → object_in t ≡ None → fits Object t ≡ false
 unfolding fits
 object_unfit t h = none_is (object_in t) h
 
@@ -193,30 +193,44 @@ width_has : (field : Tree) → HasOtherWidth field → has_other_width (option_a
 width_has field w = rw (w.there, w.good) (is_other_number (width_of w.bits) 4 w.other)
 
 -- the kind of a value, where it is the word of one
-kind_in : (value : Tree) (k : SwAccess) → option_and_then software (text_in value) ≡ Some k → IsKind value k
-kind_in value k h = option_and_then_some software (text_in value) k h (λ word text kind. (word, text, kind))
+kind_in : {K : Type 0} (kinds : List ℕ → Option K) (value : Tree) (k : K) → option_and_then kinds (text_in value) ≡ Some k → IsWordOf kinds value k
+kind_in kinds value k h = option_and_then_some kinds (text_in value) k h (λ word text kind. (word, text, kind))
 
-in_kind : (value : Tree) (k : SwAccess) → IsKind value k → option_and_then software (text_in value) ≡ Some k
-in_kind value k (word, text, kind) = rw text kind
+in_kind : {K : Type 0} (kinds : List ℕ → Option K) (value : Tree) (k : K) → IsWordOf kinds value k → option_and_then kinds (text_in value) ≡ Some k
+in_kind kinds value k (word, text, kind) = rw text kind
 
 pub same_some : {X : Type 0} (x y : X) → Some x ≡ Some y → x ≡ y
 same_some x y is = ap (λ o. elim o [ Some z ↦ z | None ↦ x ]) is
 
-counts_tells : (register field : Tree) (k : SwAccess) → kind_that_counts (members_of register) (members_of field) ≡ Some k → KindCounts register field k
-unfolding kind_that_counts
-counts_tells register field k h = by (value_at (codes "swaccess") (members_of field)) (value_at (codes "swaccess") (members_of register)) refl refl h where
-  by : (o p : Option Tree) → value_at (codes "swaccess") (members_of field) ≡ o → value_at (codes "swaccess") (members_of register) ≡ p
-      → option_map_or (λ t. option_and_then software (text_in t)) o (option_map_or (λ t. option_and_then software (text_in t)) p (Some Nothing)) ≡ Some k
-      → KindCounts register field k
-  by (Some v) p is_o is_p h = own v is_o (kind_in v k h)
-  by None (Some v) is_o is_p h = of_register v is_o is_p (kind_in v k h)
-  by None None is_o is_p h = subst (KindCounts register field) (same_some Nothing k h) (neither is_o is_p)
+-- the kind that counts for a field, by its word at a key
+abbrev pub kind_at : {K : Type 0} → (List ℕ → Option K) → K → List ℕ → Tree → Tree → Option K
+kind_at kinds otherwise key register field =
+    option_map_or (λ t. option_and_then kinds (text_in t)) (value_at key (members_of field))
+    (option_map_or (λ t. option_and_then kinds (text_in t)) (value_at key (members_of register)) (Some otherwise))
 
-counts_has : (register field : Tree) (k : SwAccess) → KindCounts register field k → kind_that_counts (members_of register) (members_of field) ≡ Some k
+pub kind_tells_word : {K : Type 0} (kinds : List ℕ → Option K) (otherwise : K) (key : List ℕ) (register field : Tree) (k : K)
+    → kind_at kinds otherwise key register field ≡ Some k → Counts kinds otherwise key register field k
+kind_tells_word kinds otherwise key register field k h = by (value_at key (members_of field)) (value_at key (members_of register)) refl refl h where
+  by : (o p : Option Tree) → value_at key (members_of field) ≡ o → value_at key (members_of register) ≡ p
+      → option_map_or (λ t. option_and_then kinds (text_in t)) o (option_map_or (λ t. option_and_then kinds (text_in t)) p (Some otherwise)) ≡ Some k
+      → Counts kinds otherwise key register field k
+  by (Some v) p is_o is_p h = own v is_o (kind_in kinds v k h)
+  by None (Some v) is_o is_p h = of_register v is_o is_p (kind_in kinds v k h)
+  by None None is_o is_p h = subst (Counts kinds otherwise key register field) (same_some otherwise k h) (neither is_o is_p)
+
+pub word_tells_kind : {K : Type 0} (kinds : List ℕ → Option K) (otherwise : K) (key : List ℕ) (register field : Tree) (k : K)
+    → Counts kinds otherwise key register field k → kind_at kinds otherwise key register field ≡ Some k
+word_tells_kind kinds otherwise key register field k (own v there is) = rw there (in_kind kinds v k is)
+word_tells_kind kinds otherwise key register field k (of_register v absent there is) = rw (absent, there) (in_kind kinds v k is)
+word_tells_kind kinds otherwise key register field _ (neither absent none) = rw (absent, none) refl
+
+pub counts_tells : (register field : Tree) (k : SwAccess) → kind_that_counts (members_of register) (members_of field) ≡ Some k → SoftwareCounts register field k
 unfolding kind_that_counts
-counts_has register field k (own v there is) = rw there (in_kind v k is)
-counts_has register field k (of_register v absent there is) = rw (absent, there) (in_kind v k is)
-counts_has register field _ (neither absent none) = rw (absent, none) refl
+counts_tells register field k h = kind_tells_word software Nothing (codes "swaccess") register field k h
+
+pub counts_has : (register field : Tree) (k : SwAccess) → SoftwareCounts register field k → kind_that_counts (members_of register) (members_of field) ≡ Some k
+unfolding kind_that_counts
+counts_has register field k h = word_tells_kind software Nothing (codes "swaccess") register field k h
 
 -- another kind than the three
 record OtherKind (k : SwAccess) : Type 0 where
@@ -237,7 +251,7 @@ is_untaken Rw other = absurd (other.not_rw refl)
 is_untaken Wo other = absurd (other.not_wo refl)
 is_untaken k other = refl
 
-not_true : (b : Bool) → not b ≡ true → b ≡ false
+pub not_true : (b : Bool) → not b ≡ true → b ≡ false
 not_true true h = cc
 not_true false h = refl
 
@@ -298,7 +312,7 @@ fields_are : (m : Tree) (fs : List Tree) → HasFields m fs → elements (codes 
 unfolding elements
 fields_are m fs h = rw (h.there, h.is_list) refl
 
-object_fits : (t : Tree) → ¬ (object_in t ≡ None) → fits Object t ≡ true
+pub object_fits : (t : Tree) → ¬ (object_in t ≡ None) → fits Object t ≡ true
 unfolding fits
 object_fits t other = by (object_in t) other where
   by : (o : Option (List Member)) → ¬ (o ≡ None) → is_some o ≡ true
@@ -309,26 +323,27 @@ fields_have : (m : Tree) (fs : List Tree) → HasFields m fs → fields_are_obje
 unfolding fields_are_objects
 fields_have m fs h = rw (h.there, h.is_list) (pass_all (fits Object) fs (λ f among. object_fits f (h.objects f among)))
 
-gates_tell : (m : Tree) → is_fit_at (Boolean ∷ []) (codes "regwen_multi") (members_of m) ≡ true → GatesAreTold m
+-- a value at the key, if there is one, is a boolean
+pub boolean_tells : (key : List ℕ) (t : Tree) → is_fit_at (Boolean ∷ []) key (members_of t) ≡ true → IsBooleanIfAny key t
 unfolding is_fit_at fits
-gates_tell m h value there none =
+boolean_tells key t h value there none =
     let fit : (is_some (boolean_in value) || false) ≡ true = subst (λ (o : Option Tree). option_map_or (fits_one (Boolean ∷ [])) o true ≡ true) there h in
     let unfit : is_some (boolean_in value) ≡ false = none_is (boolean_in value) none in
     cc
 
-gates_have : (m : Tree) → GatesAreTold m → is_fit_at (Boolean ∷ []) (codes "regwen_multi") (members_of m) ≡ true
+pub boolean_has : (key : List ℕ) (t : Tree) → IsBooleanIfAny key t → is_fit_at (Boolean ∷ []) key (members_of t) ≡ true
 unfolding is_fit_at fits
-gates_have m told = by (value_at (codes "regwen_multi") (members_of m)) refl where
+boolean_has key t told = by (value_at key (members_of t)) refl where
   there : (o : Option Bool) → ¬ (o ≡ None) → (is_some o || false) ≡ true
   there None other = absurd (other refl)
   there (Some b) other = refl
 
-  by : (o : Option Tree) → value_at (codes "regwen_multi") (members_of m) ≡ o → option_map_or (fits_one (Boolean ∷ [])) o true ≡ true
+  by : (o : Option Tree) → value_at key (members_of t) ≡ o → option_map_or (fits_one (Boolean ∷ [])) o true ≡ true
   by None is = refl
   by (Some v) is = there (boolean_in v) (told v is)
 
 -- a boolean that is true stands at the key
-true_there : (key : List ℕ) (t : Tree) → unwrap_or (boolean_at key (members_of t)) false ≡ true → (value : Tree) × HasTrueAt key t value
+pub true_there : (key : List ℕ) (t : Tree) → unwrap_or (boolean_at key (members_of t)) false ≡ true → (value : Tree) × HasTrueAt key t value
 unfolding boolean_at
 true_there key t h = by (value_at key (members_of t)) refl h where
   by : (o : Option Tree) → value_at key (members_of t) ≡ o → unwrap_or (option_and_then boolean_in o) false ≡ true → (value : Tree) × HasTrueAt key t value
@@ -354,7 +369,7 @@ compact_tells m f among =
       cannot = record {
         fields = elements (codes "fields") (members_of m);
         has_fields = fields_tell m first.0;
-        gates_told = gates_tell m second.0;
+        gates_told = boolean_tells (codes "regwen_multi") m second.0;
         why = elim (or_cases several gated second.1) [
           | inl h ↦ inl (ltb-true 1 (length (elements (codes "fields") (members_of m))) h)
           | inr h ↦ inr (true_there (codes "regwen_multi") m h)
@@ -374,5 +389,5 @@ compact_has m value there cannot =
       | inr one ↦ or_right several gated (true_at (codes "regwen_multi") m one.0 one.1)
     ] in
     looked_has (objects && (fit && (several || gated))) _ (outside_if_true (members_of m) (codes "compact"))
-    (and_from objects (fit && (several || gated)) (fields_have m cannot.fields cannot.has_fields) (and_from fit (several || gated) (gates_have m cannot.gates_told) why))
+    (and_from objects (fit && (several || gated)) (fields_have m cannot.fields cannot.has_fields) (and_from fit (several || gated) (boolean_has (codes "regwen_multi") m cannot.gates_told) why))
     (true_has (codes "compact") m value there)

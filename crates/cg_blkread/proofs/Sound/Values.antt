@@ -56,7 +56,7 @@ first_at P name before (m ∷ ms) absent all =
           later (ap (λ t. t || list_any (bytes_eq name) before) (nat_list_eq_equiv.symm name m.key ∙ e) ∙ absent) held.1
 
 -- what holds of all lists of entries holds of that of an interface
-list_has : (P : Tree → Type 0) (ms : List Member) (d : Tree) → AllOf (λ (l : EntryList). P l.value) (entry_lists ms) → MatchOption (entry_list_of ms d) ⊤ P
+pub list_has : (P : Tree → Type 0) (ms : List Member) (d : Tree) → AllOf (λ (l : EntryList). P l.value) (entry_lists ms) → MatchOption (entry_list_of ms d) ⊤ P
 unfolding entry_lists entry_list_of
 list_has P ms d all = by_value (value_at (codes "registers") ms) all where
   members_hold : (ns : List Member) → AllOf (λ (l : EntryList). P l.value) (map (λ (m : Member). record { key = m.key; value = m.value }) ns) → AllOf (λ (m : Member). P m.value) ns

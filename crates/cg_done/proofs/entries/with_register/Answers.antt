@@ -12,9 +12,10 @@ unfolding register_pairs
 returns c =
     let from = c.members-members.ensures in
     let shared = c.shared_of-shared.ensures ∙ ap shared_of from in
-    c.in_ok-value-7.ensures
-    ∙ ap (λ reset. with_all (pair_if (codes "resval") (option_map number_of reset)) (view c.in_ok-value-6.value)) (c.register_reset.ensures ∙ ap register_reset from)
-    ∙ follow _ _ _ _ _ _ c.in_ok-value-6.ensures c.in_ok-register_fields.ensures
+    c.in_ok-value-8.ensures
+    ∙ ap (λ reset. with_all (pair_if (codes "resval") (option_map number_of reset)) (view c.in_ok-value-7.value)) (c.register_reset.ensures ∙ ap register_reset from)
+    ∙ follow _ _ _ _ _ _ c.in_ok-value-7.ensures c.in_ok-register_fields.ensures
+    ∙ follow _ _ _ _ _ _ c.in_ok-value-6.ensures (c.truth-4.ensures ∙ ap boolean (c.is_true-4.ensures ∙ ap (is_true (codes "shadowed")) from))
     ∙ follow _ _ _ _ _ _ c.in_ok-value-5.ensures (c.truth-3.ensures ∙ ap boolean (c.is_true-3.ensures ∙ ap (is_true (codes "hwre")) from))
     ∙ follow _ _ _ _ _ _ c.in_ok-value-4.ensures (c.truth-2.ensures ∙ ap boolean (c.is_true-2.ensures ∙ ap (is_true (codes "hwqe")) from))
     ∙ follow _ _ _ _ _ _ c.in_ok-value-3.ensures (c.truth.ensures ∙ ap boolean (c.is_true.ensures ∙ ap (is_true (codes "hwext")) from))
