@@ -4,3 +4,4 @@ pub mod Joining
 pub mod Shapes
 pub mod Covering
 pub mod Sound
+pub mod Linking

@@ -13,6 +13,7 @@
 mod checked;
 mod coverage;
 mod graph;
+mod links;
 mod lookup;
 mod map;
 mod node_ranges;

@@ -1,15 +1,21 @@
 //! The nodes of a merged top, and what they stand for.
 
-ghost use Rattle.std.specs.Prelude.{◌≡◌, ◌↔◌, ◌<◌, ◌≤◌, ◌^◌, ◌∷◌, [], ℕ, Some, IfOk, length};
-ghost use Rattle.cg_desc.specs.Merged.{NodeAt, EndAt};
-ghost use Rattle.cg_desc.specs.Reach.{IsInnerHost};
-ghost use Rattle.cg_desc.specs.declared.crossbar.NodeDesc.{NodeDesc as ANode};
+ghost use Rattle.std.specs.Prelude.{◌≡◌, ◌↔◌, ◌<◌, ℕ, Some, length};
+ghost use Rattle.cg_desc.specs.Ends.{CrossbarIs};
+ghost use Rattle.cg_desc.specs.Merged.{design_of, NodeAt, EndAt};
+ghost use Rattle.cg_desc.specs.declared.crossbar.XbarDesc.{XbarDesc as Crossbar};
 ghost use Rattle.cg_space.specs.Inner.Sound.{HasNode, IsNestedAt, IsSound};
-ghost use Rattle.cg_space.specs.Inner.Tables.{AreLinks};
 
-use cg_base::{List, Memory};
 use cg_desc::{MergedTop, NodeDesc, NodeEnd};
-use std::alloc::Global;
+
+/// How many nodes the crossbar has.
+pub fn node_count(top: &MergedTop, xbar: usize) -> usize
+    requires { xbar < length top.now.xbars }
+    ensures count { (x : Crossbar) → CrossbarIs (design_of top.now) xbar x → result ≡ length x.nodes }
+    ensures nodes { (n : ℕ) → (n < result) ↔ HasNode top.now xbar n }
+{
+    top.xbars.as_slice()[xbar].nodes.len()
+}
 
 /// Node `node` of crossbar `xbar`.
 pub fn node_at(top: &MergedTop, xbar: usize, node: usize) -> &NodeDesc

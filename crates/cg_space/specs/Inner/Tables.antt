@@ -1,5 +1,5 @@
 -- Tables of what is kept of the ranges of a crossbar's nodes.
-use Rattle.std.specs.Prelude.{ℕ, ◌≡◌, ◌<◌, ◌≤◌, ◌⊎◌, ◌↔◌, false, true, List, [], length, get_or, slice_get, Some}
+use Rattle.std.specs.Prelude.{ℕ, ◌≡◌, ◌<◌, ◌≤◌, ◌⊎◌, ◌↔◌, false, true, List, [], ◌∷◌, length, get_or, slice_get, Option, Some, None}
 use Rattle.cg_desc.specs.Ends.{CrossbarIs}
 use Rattle.cg_desc.specs.Merged.{design_of, NodeAt}
 use Rattle.cg_desc.specs.Reach.{HasRanges, HaveRanges, Nests}
@@ -10,6 +10,11 @@ use Rattle.cg_desc.specs.declared.top.MergedTop.{MergedTop}
 use Rattle.cg_space.specs.Inner.Coverages.{IsCoverage}
 use Rattle.cg_space.specs.Inner.Graph.{IsLink}
 use Rattle.cg_space.specs.declared.coverage.Coverage.{Coverage}
+
+-- the number, where there is one
+abbrev pub those : Option ℕ → List ℕ
+those None = []
+those (Some y) = y ∷ []
 
 -- which crossbars stand in which as devices
 pub record AreLinks (m : MergedTop) (links : List (List ℕ)) : Type 0 where
