@@ -5,3 +5,4 @@ pub mod Shapes
 pub mod Covering
 pub mod Sound
 pub mod Linking
+pub mod Tabling

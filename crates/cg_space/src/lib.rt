@@ -21,6 +21,7 @@ mod nodes;
 mod region;
 mod row;
 mod shared;
+mod table;
 
 pub use checked::check;
 pub use lookup::find;
