@@ -18,3 +18,4 @@ pub mod Reach
 pub mod AddressMap
 pub mod Faults
 pub mod FaultText
+pub mod FoundBase

@@ -10,6 +10,7 @@
 #![tactic(auto)]
 
 mod address;
+mod base;
 mod block;
 mod crossbar;
 mod fault;
@@ -18,6 +19,7 @@ mod place;
 mod top;
 
 pub use address::{Place, each_address_has_one_target};
+pub use base::is_meant;
 pub use block::{
     AlertDesc, BlockDesc, ClockDesc, FaceDesc, FaceItems, FieldDesc, HostFace, HwAccess, IntrDesc,
     IoDesc, IoDir, Item, LaidBlock, LaidFace, LaidRow, MultiDesc, RegDesc, SwAccess, WindowDesc,
