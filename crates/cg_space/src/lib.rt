@@ -22,6 +22,7 @@ mod region;
 mod row;
 mod shared;
 mod table;
+mod verdict;
 
 pub use checked::check;
 pub use lookup::find;
