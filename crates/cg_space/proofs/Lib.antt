@@ -4,3 +4,8 @@ pub mod Joining
 pub mod Shapes
 pub mod Covering
 pub mod Sound
+pub mod Linking
+pub mod Tabling
+pub mod Merged
+pub mod OneList
+pub mod Judging

@@ -13,6 +13,7 @@
 mod checked;
 mod coverage;
 mod graph;
+mod links;
 mod lookup;
 mod map;
 mod node_ranges;
@@ -20,6 +21,8 @@ mod nodes;
 mod region;
 mod row;
 mod shared;
+mod table;
+mod verdict;
 
 pub use checked::check;
 pub use lookup::find;

@@ -1,5 +1,5 @@
 -- What this crate needs of a merged top: each number names a thing that is there.
-use Rattle.std.specs.Prelude.{◌≡◌, ℕ, ◌^◌, ◌≤◌, false, length, slice_get, Some}
+use Rattle.std.specs.Prelude.{◌≡◌, ℕ, ◌^◌, ◌≤◌, false, true, length, slice_get, Some}
 use Rattle.cg_svspec.specs.Printable.{AllOf}
 use Rattle.cg_desc.specs.Crossbar.{IsValidCrossbar}
 use Rattle.cg_desc.specs.Ends.{CrossbarIs}
@@ -20,7 +20,11 @@ HasNode m x n = (node : NodeDesc) × NodeAt m x n node
 abbrev pub IsDeviceAt : MergedTop → ℕ → ℕ → Type 0
 IsDeviceAt m x n = (node : NodeDesc) × NodeAt m x n node × (node.host ≡ false)
 
--- it is one that stands for crossbar y
+-- node n of crossbar x is a host
+abbrev pub IsHostAt : MergedTop → ℕ → ℕ → Type 0
+IsHostAt m x n = (node : NodeDesc) × NodeAt m x n node × (node.host ≡ true)
+
+-- node n is a device that stands for crossbar y
 abbrev pub IsNestedAt : MergedTop → ℕ → ℕ → ℕ → Type 0
 IsNestedAt m x n y = IsDeviceAt m x n × EndAt m x n (Xbar y)
 
