@@ -2,7 +2,7 @@
 
 ghost use Rattle.std.specs.Prelude.{◌≡◌, [], IfOk};
 ghost use Rattle.cg_desc.specs.Crossbar.{IsValidCrossbar};
-ghost use Rattle.cg_desc.specs.Merged.{all_outside, alone};
+ghost use Rattle.cg_desc.specs.Merged.{IsValidMerged, all_outside, alone};
 
 use cg_base::{List, Memory, Text};
 use cg_desc::{At, MergedTop, NodeDesc, NodeEnd, TopDesc, XbarDesc, XbarEnds};
@@ -43,6 +43,7 @@ fn all_outside(alloc: Global, nodes: &[NodeDesc]) -> Result<List<NodeEnd>, Memor
 pub fn merge_one(alloc: Global, xbar: XbarDesc) -> Result<MergedTop, Memory>
     requires { IsValidCrossbar xbar }
     ensures alone { IfOk result (λ top. top ≡ alone xbar) }
+    ensures valid { IfOk result (λ top. IsValidMerged top) }
 {
     let top = empty_top(alloc, xbar.file, xbar.at);
     let mut ends = List::new(alloc);
