@@ -2,21 +2,26 @@
 use Rattle.std.proofs.Common.{◌≡◌, ℕ, List, Some, Result, Ok, Err, sym, ◌∙◌, ap, subst}
 use Rattle.cg_desc.specs.Merged.{alone}
 use Rattle.cg_desc.specs.declared.crossbar.XbarDesc.{XbarDesc}
+use Rattle.cg_desc.specs.declared.fault.Fault.{Fault}
+use Rattle.cg_desc.specs.declared.top.MergedTop.{MergedTop}
 use Rattle.cg_desc.specs.declared.fault.DescFault.{DescFault}
 use Rattle.cg_desc.specs.declared.fault.DescFault.TheVariants as refusal
 use Rattle.cg_finding.specs.Finding.{Finding, in_file}
 use Rattle.cg_finding.specs.Rules as rules
-use Rattle.cg_finding.specs.Violations.{IsFirstViolation, RefusesFirst}
-use Rattle.cg_finding.proofs.Stages.{lifted, only_first}
+use Rattle.cg_finding.specs.Violations.{IsFirstViolation, IsFirstFault, RefusesFirst}
+use Rattle.cg_finding.proofs.Stages.{lifted, only_first, finding_of, found_first}
 use Rattle.cg_hjson.specs.declared.tree.Tree.{Tree}
 use Rattle.cg_xbread.specs.Described.{crossbar_of}
 use Rattle.cg_xbread.specs.Reads.{Reads}
 use Rattle.cg_xbread.specs.Violations.{Violates as BreaksDescription}
 use Rattle.cg_files.specs.Files.{File, HasTree, BreaksFile}
 use Rattle.cg_files.proofs.OneTree.{same_tree, unbroken}
-use Rattle.cg_space.specs.Violations.{Violates as BreaksRanges}
+use Rattle.cg_space.specs.Answers.{Answers}
+use Rattle.cg_space.specs.Violations.{Violates as BreaksRanges, circle, bad_range, overlap}
 use Rattle.cg_crossbar.specs.Stages.{Describes}
 use Rattle.cg_crossbar.specs.Outputs.{clash_of, written_ranges}
+use Rattle.cg_crossbar.proofs.Ranges.{only_crossbar, spaced_unbroken}
+use Rattle.cg_crossbar.proofs.Valid.{described_is_valid}
 use Rattle.cg_crossbar.specs.Breaks.{BreaksCrossbar, of_file, of_description, IsSpaced, BreaksAlone, description, ranges, clash, ReadsCrossbar}
 
 module _ (file : File) where
@@ -64,7 +69,7 @@ module _ (file : File) where
   among_ranges : (x : XbarDesc) → Describes file x → (f g : Finding) → InRanges x f → BreaksAlone file g → InRanges x g
   among_ranges x is f _ broken (description {f = g} also) = absurd (sound x g is also)
   among_ranges x is f _ broken (ranges {f = g} y is' also) = subst (λ z. InRanges z g) (same y x is' is) also
-  among_ranges x is f _ broken (clash y is' spaced also) = absurd (spaced (in_file file.number f) (subst (λ z. InRanges z f) (same x y is is') broken))
+  among_ranges x is f _ broken (clash y is' spaced also) = absurd (spaced_unbroken y spaced (described_is_valid file y is') (in_file file.number f) (subst (λ z. InRanges z f) (same x y is is') broken))
 
   pub ranges_first : (x : XbarDesc) (e : DescFault) → Describes file x → RefusesFirst e file.number (InRanges x) → RefusesFirst e file.number (BreaksAlone file)
   ranges_first x e is refuses = lifted (InRanges x) (BreaksAlone file) e file.number (λ f broken. ranges x is broken) (among_ranges x is) refuses
@@ -72,7 +77,7 @@ module _ (file : File) where
   clash_only : (x : XbarDesc) (name : List ℕ) → Describes file x → IsSpaced x → clash_of x (written_ranges x) ≡ Some name
       → (g : Finding) → BreaksAlone file g → g ≡ rules.names_clash x.at name
   clash_only x name is spaced comes _ (description {f = g} also) = absurd (sound x g is also)
-  clash_only x name is spaced comes _ (ranges {f = g} y is' also) = absurd (spaced (in_file file.number g) (subst (λ z. InRanges z g) (same y x is' is) also))
+  clash_only x name is spaced comes _ (ranges {f = g} y is' also) = absurd (spaced_unbroken x spaced (described_is_valid file x is) (in_file file.number g) (subst (λ z. InRanges z g) (same y x is' is) also))
   clash_only x name is spaced comes _ (clash {name = other} y is' spaced' also) =
       let e : Some other ≡ Some name = sym also ∙ ap (λ z. clash_of z (written_ranges z)) (same y x is' is) ∙ comes in
       let told : other ≡ name = cc in
@@ -82,3 +87,25 @@ module _ (file : File) where
   pub clash_first : (x : XbarDesc) (name : List ℕ) → Describes file x → IsSpaced x → clash_of x (written_ranges x) ≡ Some name
       → IsFirstViolation (BreaksAlone file) (rules.names_clash x.at name)
   clash_first x name is spaced comes = only_first (BreaksAlone file) _ (clash x is spaced comes) (clash_only x name is spaced comes)
+
+-- ---- the ranges of a crossbar that stands alone
+
+-- what its ranges break is told in its own file
+in_own_file : (x : XbarDesc) (fault : Fault) → BreaksRanges (alone x) fault → fault.file ≡ x.file
+in_own_file x _ (circle k n xbar node at in_circle) = ap (λ (z : XbarDesc). z.file) (only_crossbar x k xbar at.crossbar_is).1
+in_own_file x _ (bad_range k n xbar node none at bad) = ap (λ (z : XbarDesc). z.file) (only_crossbar x k xbar at.crossbar_is).1
+in_own_file x _ (overlap k n xbar node none at shared) = ap (λ (z : XbarDesc). z.file) (only_crossbar x k xbar at.crossbar_is).1
+
+described_file : (file : File) (x : XbarDesc) → Describes file x → x.file ≡ file.number
+unfolding crossbar_of
+described_file file x is = ap (λ (z : XbarDesc). z.file) is.is
+
+-- the first fault of its ranges is the first that they break in the file
+pub ranges_refused : {X : Type 0} (file : File) (x : XbarDesc) (m : MergedTop) (e : DescFault) (IsRight : X → Type 0) → m ≡ alone x → Describes file x
+    → Answers {X} (Err e) m IsRight → RefusesFirst e file.number (BreaksAlone file)
+ranges_refused file x m (refusal.Fault fault) IsRight same is answers =
+    let first : IsFirstFault (BreaksRanges (alone x)) fault = subst (λ t. IsFirstFault (BreaksRanges t) fault) same answers in
+    let number : fault.file ≡ file.number = in_own_file x fault first.violates ∙ described_file file x is in
+    ranges_first file x (refusal.Fault fault) is
+    (finding_of fault, (λ i. in_file (number i) (finding_of fault)), found_first (BreaksRanges (alone x)) fault file.number number first)
+ranges_refused file x m refusal.Memory IsRight same is answers = tt

@@ -1,4 +1,5 @@
+pub mod Valid
+pub mod Ranges
 pub mod FirstOnes
 pub mod Once
-pub mod Ranges
 pub mod Meanings

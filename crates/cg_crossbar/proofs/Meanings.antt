@@ -1,16 +1,11 @@
 -- What is written of a crossbar means it, by the laws of printed texts and of crossbars' modules.
-use Rattle.std.proofs.Common.{◌≡◌, ℕ, List, None, refl, sym, subst}
+use Rattle.std.proofs.Common.{refl}
 use Rattle.cg_svspec.specs.Stands.{PrintedTextStands}
-use Rattle.cg_desc.specs.Crossbar.{IsValidCrossbar}
-use Rattle.cg_desc.specs.Ranges.{AreRangesOf}
-use Rattle.cg_desc.specs.declared.crossbar.NodeRanges.{NodeRanges}
-use Rattle.cg_desc.specs.declared.crossbar.XbarDesc.{XbarDesc}
-use Rattle.cg_xbread.specs.Violations.{keys, nodes}
-use Rattle.cg_xbread.proofs.Valid.{valid_crossbar}
-use Rattle.cg_files.specs.Files.{File}
+use Rattle.cg_busspec.specs.CrossbarModule.{crossbar_module}
 use Rattle.cg_busspec.specs.Laws.{CrossbarModuleMeans}
-use Rattle.cg_crossbar.specs.Stages.{Describes}
+use Rattle.cg_crossbar.specs.Outputs.{module_of_crossbar, written_ranges}
 use Rattle.cg_crossbar.specs.Laws.{CrossbarOutputMeans, CrossbarFileMeans}
+use Rattle.cg_crossbar.proofs.Valid.{described_is_valid}
 
 pub output_means : PrintedTextStands → CrossbarModuleMeans → CrossbarOutputMeans
 unfolding crossbar_module
@@ -23,7 +18,5 @@ output_means printed module x ranges valid are apart =
       means = means;
     }
 
--- what a file describes is valid
-pub described_is_valid : (file : File) (x : XbarDesc) → Describes file x → IsValidCrossbar x
-described_is_valid file x is =
-    subst IsValidCrossbar (sym is.is) (valid_crossbar file.number is.tree (λ f broken. is.sound f (keys broken)) (λ f broken. is.sound f (nodes (λ g also. is.sound g (keys also)) broken)))
+pub file_means : CrossbarOutputMeans → CrossbarFileMeans
+file_means law file x good = law x (written_ranges x) (described_is_valid file x good.describes) good.spaced good.no_clash

@@ -7,11 +7,13 @@ use Rattle.cg_crossbar.specs.Outputs.{clash_of, written_ranges}
 use Rattle.cg_crossbar.specs.Breaks.{description, ranges, clash}
 use Rattle.cg_crossbar.specs.Laws.{GoodFileBreaksNothing, GoodFileIsOne}
 use Rattle.cg_crossbar.proofs.FirstOnes.{InRanges, same, sound}
+use Rattle.cg_crossbar.proofs.Ranges.{spaced_unbroken}
+use Rattle.cg_crossbar.proofs.Valid.{described_is_valid}
 
 pub good_unbroken : GoodFileBreaksNothing
 good_unbroken file x _ good (description {f} broken) = sound file x f good.describes broken
 good_unbroken file x _ good (ranges {f} y is broken) =
-    good.spaced (in_file file.number f) (subst (λ z. InRanges file z f) (same file y x is good.describes) broken)
+    spaced_unbroken x good.spaced (described_is_valid file x good.describes) (in_file file.number f) (subst (λ z. InRanges file z f) (same file y x is good.describes) broken)
 good_unbroken file x _ good (clash {name} y is spaced comes) =
     let e : Some name ≡ None = sym comes ∙ ap (λ z. clash_of z (written_ranges z)) (same file y x is good.describes) ∙ good.no_clash in cc
 

@@ -1,6 +1,7 @@
 -- What a crossbar's file breaks. Each rule is read where what it speaks of breaks no rule of an earlier phase.
-use Rattle.std.specs.Prelude.{◌≡◌, List, Some, None, Result, Ok, Err}
+use Rattle.std.specs.Prelude.{◌≡◌, ℕ, List, Some, None, Result, Ok, Err}
 use Rattle.cg_desc.specs.Merged.{alone}
+use Rattle.cg_desc.specs.Ranges.{AreRangesOf}
 use Rattle.cg_desc.specs.declared.crossbar.XbarDesc.{XbarDesc}
 use Rattle.cg_desc.specs.declared.fault.DescFault.{DescFault}
 use Rattle.cg_finding.specs.Finding.{Finding, in_file}
@@ -9,7 +10,7 @@ use Rattle.cg_finding.specs.Violations.{RefusesFirst}
 use Rattle.cg_hjson.specs.declared.tree.Tree.{Tree}
 use Rattle.cg_xbread.specs.Violations.{Violates as BreaksDescription}
 use Rattle.cg_files.specs.Files.{File, HasTree, BreaksFile}
-use Rattle.cg_space.specs.Violations.{NoViolation, Violates as BreaksRanges}
+use Rattle.cg_space.specs.Violations.{Violates as BreaksRanges}
 use Rattle.cg_crossbar.specs.Stages.{Describes}
 use Rattle.cg_outputs.specs.declared.out_file.OutFile.{OutFile}
 use Rattle.cg_crossbar.specs.Outputs.{clash_of, written_ranges, crossbar_output}
@@ -25,7 +26,7 @@ pub data BreaksCrossbar (file : File) : Finding → Type 0 where
 
 -- the ranges that are written fit
 abbrev pub IsSpaced : XbarDesc → Type 0
-IsSpaced x = NoViolation (alone x)
+IsSpaced x = AreRangesOf x (written_ranges x)
 
 -- what the file breaks up to the crossbar's text: the ranges that are written are those that count
 pub data BreaksAlone (file : File) : Finding → Type 0 where

@@ -7,7 +7,7 @@ ghost use Rattle.cg_finding.specs.Refusal.{Names};
 ghost use Rattle.cg_finding.specs.Rules as rules;
 ghost use Rattle.cg_files.specs.Files.{File, some_file};
 ghost use Rattle.cg_desc.specs.Ranges.{AreRangesOf};
-ghost use Rattle.cg_crossbar.specs.Breaks.{FindsAlone, IsOutputOf, IsSpaced};
+ghost use Rattle.cg_crossbar.specs.Breaks.{FindsAlone, IsOutputOf};
 ghost use Rattle.cg_crossbar.specs.Outputs.{written_ranges};
 ghost use Rattle.cg_crossbar.specs.Stages.{Describes};
 
@@ -39,7 +39,6 @@ fn text_of(
     requires valid { IsValidCrossbar xbar.now }
     requires fit { AreRangesOf xbar.now ranges.now }
     requires written { ranges.now ≡ written_ranges xbar.now }
-    requires spaced { IsSpaced xbar.now }
     ensures { (f : File) → f.number ≡ file → Describes f xbar.now → FindsAlone result f (λ o. IsOutputOf f o) }
 {
     match crossbar_output(alloc, xbar, ranges) {

@@ -6,6 +6,3 @@ pub mod Covering
 pub mod Sound
 pub mod Linking
 pub mod Tabling
-pub mod Merged
-pub mod OneList
-pub mod Judging

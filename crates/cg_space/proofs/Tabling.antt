@@ -7,7 +7,7 @@ use Rattle.cg_svspec.specs.Printable.{AllOf}
 use Rattle.cg_svspec.specs.Names.{Among}
 use Rattle.cg_desc.specs.Crossbar.{Connects, IsDevice, IsValidCrossbar, IsValidNode, NodeIs}
 use Rattle.cg_desc.specs.Ends.{CrossbarIs}
-use Rattle.cg_desc.specs.Merged.{design_of, BaseIs, EndAt, FaceAt, NodeAt}
+use Rattle.cg_desc.specs.Merged.{design_of, NodeAt, EndAt, FaceAt}
 use Rattle.cg_desc.specs.Reach.{HasRanges, HaveRanges, IsInnerHost, Nests, interface, outside, nested, nothing, more}
 use Rattle.cg_desc.specs.declared.block.LaidBlock.{LaidBlock}
 use Rattle.cg_desc.specs.declared.block.LaidFace.{LaidFace}
@@ -23,7 +23,7 @@ use Rattle.cg_space.specs.Inner.Tables.{AreKept, AreTables, IsEntry, IsFaceRange
 use Rattle.cg_space.specs.declared.coverage.Coverage.{Coverage}
 use Rattle.cg_space.proofs.Looking.{at_among}
 use Rattle.cg_space.proofs.Marking.{differ}
-use Rattle.cg_space.proofs.Sound.{one_end, one_face, one_node, one_there, xbar_within}
+use Rattle.cg_space.proofs.Sound.{one_end, one_node, one_there, xbar_within}
 
 pub if_ok : {A E : Type 0} {P Q : A → Type 0} (r : Result A E) → IfOk r P → ((a : A) → P a → Q a) → IfOk r Q
 if_ok (Ok a) p f = f a p
@@ -120,6 +120,12 @@ kept_nested m x n y to c stands inner is have =
     (have.0, nested y inner.0 inner.1 stands inner.2 (rw (is inner.0 inner.1 inner.2) at have.1), have.2)
 
 -- sizes of ranges are small enough
+one_face : (m : MergedTop) (i f : ℕ) (a b : LaidFace) → FaceAt m i f a → FaceAt m i f b → a ≡ b
+one_face m i f a b p q =
+    let kind : p.1.0 ≡ q.1.0 = one_there m.kinds i p.1.0 q.1.0 p.1.1 q.1.1 in
+    let block : p.0 ≡ q.0 = one_there m.blocks q.1.0 p.0 q.0 (subst (λ k. slice_get m.blocks k ≡ Some p.0) kind p.1.2) q.1.2 in
+    one_there q.0.faces f a b (subst (λ (l : LaidBlock). slice_get l.faces f ≡ Some a) block p.2) q.2
+
 pub face_fits : (m : MergedTop) (x n i f : ℕ) (range : Range) → IsSound m → EndAt m x n (Face i f) → IsFaceRange m i f range → range.size ≤ 2 ^ 32
 face_fits m x n i f range sound stands is =
     let known = sound.faces x n i f stands in
@@ -231,10 +237,3 @@ right_start m ranks tables x there (inr equal) = absurd (omega (arith, equal.1))
 pub all_right : (m : MergedTop) (ranks : List ℕ) (tables : List (List Coverage)) (r : ℕ) → length tables ≡ length m.xbars → ((x : ℕ) → get_or ranks x 0 < r)
     → RightBelow m ranks tables r 0 → AreTables m tables
 all_right m ranks tables r all high below = record { count = all; each = λ x there. below x there (inl (high x)) }
-
--- ---- the range of an interface
-
-pub face_range_is : (m : MergedTop) (i f base size : ℕ) (face : LaidFace) → FaceAt m i f face → BaseIs m i f base → size ≡ face.size
-    → IsFaceRange m i f (record { base = base; size = size })
-face_range_is m i f base size face face_is base_is e =
-    record { face = face; face_is = face_is; base = base; base_is = base_is; is = ap (λ s. record { base = base; size = s }) e }

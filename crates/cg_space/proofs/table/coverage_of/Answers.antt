@@ -14,7 +14,7 @@ face_range-requires-clause-there c =
 
 pub of-requires : goal.of-requires
 of-requires c =
-    (face_fits c.args.top.now c.args.xbar c.args.node c.in-Face.inst c.in-Face.face _ c.requires.sound (rw c.in-Face.is at c.end_at.ensures) c.face_range.ensures, tt)
+    (face_fits c.args.top.now c.args.xbar c.args.node c.in-Face.inst c.in-Face.face _ c.requires.sound (rw c.in-Face.is at c.end_at.ensures) c.in_ok-face_range-in-Face.ensures, tt)
 
 pub overflow_cast-xbar : goal.overflow_cast-xbar
 overflow_cast-xbar c = omega (arith, c.requires.sound.few, xbar_within c.args.top.now c.args.xbar c.args.node (c.requires.device.0, c.requires.device.1))
@@ -44,10 +44,10 @@ coverage_of_all-requires-clause-devices c =
 pub of-requires-in-Outside : goal.of-requires-in-Outside
 of-requires-in-Outside c = rw c.as_slice-in-Outside.ensures (written_fit c.args.top.now c.args.xbar c.args.node _ c.requires.sound c.node_at.ensures)
 
-pub returns-in-Face : goal.returns-in-Face
-returns-in-Face c =
+pub returns-in_ok-face_range-in-Face : goal.returns-in_ok-face_range-in-Face
+returns-in_ok-face_range-in-Face c =
     if_ok c.of.result c.of.ensures (λ coverage is.
-      kept_face c.args.top.now c.args.xbar c.args.node c.in-Face.inst c.in-Face.face _ coverage (rw c.in-Face.is at c.end_at.ensures) c.face_range.ensures is)
+      kept_face c.args.top.now c.args.xbar c.args.node c.in-Face.inst c.in-Face.face _ coverage (rw c.in-Face.is at c.end_at.ensures) c.in_ok-face_range-in-Face.ensures is)
 
 pub returns-in-Xbar : goal.returns-in-Xbar
 returns-in-Xbar c =
