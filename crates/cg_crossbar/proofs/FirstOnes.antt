@@ -102,7 +102,7 @@ described_file file x is = ap (λ (z : XbarDesc). z.file) is.is
 
 -- the first fault of its ranges is the first that they break in the file
 pub ranges_refused : {X : Type 0} (file : File) (x : XbarDesc) (m : MergedTop) (e : DescFault) (IsRight : X → Type 0) → m ≡ alone x → Describes file x
-    → Answers {X} (Err e) m IsRight → RefusesFirst e file.number (BreaksAlone file)
+    → Answers {X = X} (Err e) m IsRight → RefusesFirst e file.number (BreaksAlone file)
 ranges_refused file x m (refusal.Fault fault) IsRight same is answers =
     let first : IsFirstFault (BreaksRanges (alone x)) fault = subst (λ t. IsFirstFault (BreaksRanges t) fault) same answers in
     let number : fault.file ≡ file.number = in_own_file x fault first.violates ∙ described_file file x is in

@@ -9,8 +9,8 @@ use Rattle.cg_crossbar.proofs.Valid.{described_is_valid}
 
 pub output_means : PrintedTextStands → CrossbarModuleMeans → CrossbarOutputMeans
 unfolding crossbar_module
-output_means printed module x ranges valid are apart =
-    let means = module x ranges valid are apart in
+output_means printed law x ranges valid are apart =
+    let means = law x ranges valid are apart in
     record {
       module_of_text = module_of_crossbar x ranges;
       stands = printed (module_of_crossbar x ranges) means.well_formed.printable;

@@ -1,8 +1,6 @@
 -- The ranges of a crossbar that stands alone are those that are written.
 use Rattle.std.proofs.Common.{◌≡◌, ◌<◌, ℕ, zero, suc, length, map, List, [], ◌∷◌, Some, true, false, refl, sym, ap, ◌∙◌, subst, inl, inr, arith}
 use Rattle.std.specs.Prelude.{slice_get, Bool, cond}
-use Rattle.core.specs.Option.{option_map}
-use Rattle.std.proofs.lemmas.Option.{slice_get-map}
 use Rattle.cg_svspec.specs.Names.{Among}
 use Rattle.cg_svspec.specs.Printable.{AllOf, IsSomeOf}
 use Rattle.cg_desc.specs.Crossbar.{IsValidCrossbar}
@@ -87,7 +85,13 @@ written_are x entries are =
 
 -- the entry of a device has what is written for it
 entry_of : (x : XbarDesc) (n : ℕ) (node : NodeDesc) → slice_get x.nodes n ≡ Some node → RangesAre (written_ranges x) n (written_for node)
-entry_of x n node is = slice_get-map written_for x.nodes n ∙ ap (option_map written_for) is
+entry_of x n node is = at x.nodes n is where
+  at : (nodes : List NodeDesc) (n : ℕ) → slice_get nodes n ≡ Some node → slice_get (map written_for nodes) n ≡ Some (written_for node)
+  at [] n is = absurd (beyond n is) where
+    beyond : (n : ℕ) → slice_get {X = NodeDesc} [] n ≡ Some node → ⊥
+    beyond n is = cc
+  at (other ∷ nodes) zero is = let same : other ≡ node = cc in ap (λ o. Some (written_for o)) same
+  at (other ∷ nodes) (suc n) is = at nodes n is
 
 of_device : (node : NodeDesc) → node.host ≡ false → (written_for node).ranges ≡ node.ranges
 of_device node device = ap (λ h. cond h [] node.ranges) device

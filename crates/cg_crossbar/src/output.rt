@@ -15,6 +15,7 @@ use cg_svbus::xbar_module;
 use std::alloc::Global;
 
 /// The text of a crossbar whose nodes have these ranges: `xbar_<name>.sv`. `Clash` has the first name that its module would declare twice.
+#[tactic(auto, unfolding(cg_busspec::specs::CrossbarModule::crossbar_module))]
 pub fn crossbar_output(
     alloc: Global,
     xbar: &XbarDesc,

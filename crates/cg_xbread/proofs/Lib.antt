@@ -10,6 +10,6 @@ mod NodeFacts
 mod FirstBroken
 mod Fitting
 mod Numbers
-mod ValidParts
-mod ValidEnds
-mod Valid
+pub mod ValidParts
+pub mod ValidEnds
+pub mod Valid
