@@ -2,4 +2,5 @@
 pub mod Block
 pub mod GatesAndWindows
 pub mod Shadow
+pub mod ShadowRun
 pub mod Values
