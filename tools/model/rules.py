@@ -306,24 +306,33 @@ def field_ports(item: Item, field: Field, external: bool) -> list[str]:
     return [f"{item.name}_{field.name}".lower() + "_" + kind for kind in kinds]
 
 
+def is_shadowed(row: Item) -> bool:
+    """Whether the register takes its values by two equal writes."""
+    return row.kind == "register" and row.entry is not None and boolean(row.entry.member("shadowed")) is True
+
+
 def module_names(items: list[Item]) -> list[str]:
     """The names of an interface's register module: its ports, then its wires and instances in the text's order."""
     rows = [item for item in items if is_row(item)]
-    names = ["clk_i", "rst_ni", "reg_we", "reg_re", "reg_addr", "reg_wdata", "reg_be", "reg_rdata", "reg_error"]
-    stored = []
-    for row in rows:
+    ports = ["clk_i", "rst_ni", "reg_we", "reg_re", "reg_addr", "reg_wdata", "reg_be", "reg_rdata", "reg_error"]
+    states, access, nexts, flops = [], [], [], []
+    for count, row in enumerate(rows):
+        access += [f"{kind}_{count}" for kind in ["hit", "wbad", "rbad", "we", "re", "rd"]]
+        twice = is_shadowed(row)
+        nexts += [f"eq_{count}", f"ok_{count}", f"ph_{count}_n"] if twice else []
         if row.kind == "window":
-            names += [f"win_{row.name.lower()}_{kind}" for kind in ["we", "re", "addr", "wdata", "be", "rdata"]]
+            ports += [f"win_{row.name.lower()}_{kind}" for kind in ["we", "re", "addr", "wdata", "be", "rdata"]]
         for field in sorted(row.fields, key=lambda field: field.low):
-            names += field_ports(row, field, is_external(row))
-            stored += [] if is_external(row) else [f"{row.name}_{field.name}".lower()]
-    names += [f"{net}_s" for net in stored]
-    for count in range(len(rows)):
-        names += [f"{kind}_{count}" for kind in ["hit", "wbad", "rbad", "we", "re", "rd"]]
-    names += ["hit_any", "wbad_any", "rbad_any"]
-    for net in stored:
-        names += [f"{net}_h", f"{net}_n"]
-    return names + [f"u_{net}" for net in stored]
+            ports += field_ports(row, field, is_external(row))
+            if not is_external(row):
+                net = f"{row.name}_{field.name}".lower()
+                states += [f"{net}_s", f"{net}_t"] if twice else [f"{net}_s"]
+                nexts += [f"{net}_h", f"{net}_n", f"{net}_v"] if twice else [f"{net}_h", f"{net}_n"]
+                flops += [f"u_{net}", f"u_{net}_t"] if twice else [f"u_{net}"]
+        ports += [f"upd_{row.name.lower()}_err"] if twice else []
+        states += [f"ph_{count}"] if twice else []
+        flops += [f"u_ph_{count}"] if twice else []
+    return ports + states + access + ["hit_any", "wbad_any", "rbad_any"] + nexts + flops
 
 
 def header_names(block: Value) -> list[str]:

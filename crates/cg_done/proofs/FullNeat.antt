@@ -45,7 +45,7 @@ register_neat : (ms : List Member) → PairsNeat (register_pairs ms)
 unfolding register_pairs IsNeat
 register_neat ms =
     let fields = list_neat _ (fields_neat (shared_of ms) (register_reset ms) 1 (elements (codes "fields") ms)) in
-    (tt, (tt, (tt, (tt, (tt, (fields, if_neat (codes "resval") (register_reset ms)))))))
+    (tt, (tt, (tt, (tt, (tt, (tt, (fields, if_neat (codes "resval") (register_reset ms))))))))
 
 copies_neat : (ms : List Member) → PairsNeat (copy_pairs ms)
 unfolding copy_pairs IsNeat

@@ -10,12 +10,12 @@ use Rattle.cg_hjson.specs.declared.tree.Member.{Member}
 use Rattle.cg_keys.specs.Elements.{elements}
 use Rattle.cg_keys.specs.Forms.{is_one_of, or_else, window_access}
 use Rattle.cg_keys.specs.Lookups.{number_at, text_at, window_access_at}
-use Rattle.cg_keys.specs.Table.{Key, may, needs}
+use Rattle.cg_keys.specs.Table.{Key}
 use Rattle.cg_keys.specs.Values.{members_of}
-use Rattle.cg_keys.specs.declared.forms.Form.TheVariants.{Boolean, Items, Object, ParameterName, Text, Word}
-use Rattle.cg_keys.specs.declared.words.Words.TheVariants.{Hardware, WindowAccess}
+use Rattle.cg_keys.specs.declared.forms.Form.TheVariants.{Boolean, Object, ParameterName, Word}
+use Rattle.cg_keys.specs.declared.words.Words.TheVariants.{WindowAccess}
 use Rattle.cg_blkread.specs.Raw.{Parameter, Shared, is_compact, is_true, number_or_parameter, register_reset, shared_of}
-use Rattle.cg_blkread.specs.Tables.{copy_keys, register_keys, window_keys, word_number}
+use Rattle.cg_blkread.specs.Tables.{copy_keys, register_keys, window_keys}
 use Rattle.cg_blkread.specs.Values.{is_count_to}
 use Rattle.cg_done.specs.Full.{Pair, copy_pairs, full_fields, full_multireg, full_register, full_window, number_of, pair, pair_if, register_pairs, software_word, window_pairs, with_all}
 use Rattle.cg_done.proofs.Bits.{number_back}

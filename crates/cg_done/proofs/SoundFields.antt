@@ -1,5 +1,5 @@
 -- A completed field breaks no rule.
-use Rattle.std.proofs.Common.{◌≡◌, ℕ, ◌+◌, ◌-◌, ◌^◌, ◌/◌, ◌<◌, ◌≤◌, Bool, true, false, not, ◌&&◌, ◌||◌, cond, is_some, codes, bytes_eq, List, [], ◌∷◌, ◌++◌, Option, Some, None, option_and_then, unwrap_or, arith, refl, sym, ap, ◌∙◌, subst}
+use Rattle.std.proofs.Common.{◌≡◌, ℕ, ◌+◌, ◌-◌, ◌^◌, ◌/◌, ◌<◌, ◌≤◌, Bool, true, false, not, ◌&&◌, ◌||◌, cond, is_some, inl, inr, codes, bytes_eq, List, [], ◌∷◌, ◌++◌, Option, Some, None, option_and_then, unwrap_or, arith, refl, sym, ap, ◌∙◌, subst}
 use Rattle.std.proofs.Math.Nat.{mod-lt}
 use Rattle.std.proofs.lemmas.Nat.{pow_pos}
 use Rattle.std.proofs.lemmas.Bool.{and_parts}
@@ -11,6 +11,7 @@ use Rattle.serde_json.specs.Find.{as_str, get}
 use Rattle.cg_desc.specs.declared.block.SwAccess.{SwAccess}
 use Rattle.cg_desc.specs.declared.block.SwAccess.TheVariants.{Nothing}
 use Rattle.cg_desc.specs.declared.block.HwAccess.TheVariants.{Hro}
+use Rattle.cg_finding.specs.Finding.{Among}
 use Rattle.cg_hjson.specs.declared.tree.Tree.{Tree}
 use Rattle.cg_keys.specs.Forms.{hardware, is_name, is_one_of, name_limit, software}
 use Rattle.cg_keys.specs.Lookups.{hardware_at, software_at, text_at}
@@ -75,6 +76,12 @@ name_if (Some e) h = by (as_str e) h where
 pub may_fit : (k : Key) (o : Option Data) → key_good k o ≡ true → option_map_or (λ e. key_good k (Some e)) o true ≡ true
 may_fit k None h = refl
 may_fit k (Some e) h = h
+
+-- what a row asks
+pub row_good : (ks : List Key) (k : Key) (d : Data) → Among k ks → table_good ks d ≡ true → key_good k (get k.key d) ≡ true
+row_good [] k d among good = absurd among
+row_good (j ∷ ks) k d (inl is) good = ap (λ l. key_good l (get l.key d)) is ∙ (and_parts (key_good j (get j.key d)) (table_good ks d) good).0
+row_good (j ∷ ks) k d (inr among) good = row_good ks k d among (and_parts (key_good j (get j.key d)) (table_good ks d) good).1
 
 one_form : (key : List ℕ) (o : Option Data) → option_map_or (λ e. fits_told Name e || false) o true ≡ true → option_map_or (fits_told Name) o true ≡ true
 one_form key None h = refl
@@ -202,7 +209,7 @@ module _ (register t : Tree) (rv : Option ℕ) (n : ℕ) (word : IsWord rv) (low
   hardware_row : fit_at_told (Word Hardware ∷ []) (codes "hwaccess") (told t) ≡ true
   hardware_row =
       may_fit (record { key = codes "hwaccess"; forms = Word Hardware ∷ []; needed = false }) (get (codes "hwaccess") (told t))
-      (and_parts _ _ (and_parts _ _ (and_parts _ _ (and_parts _ _ table).1).1).1).0
+      (row_good field_keys (record { key = codes "hwaccess"; forms = Word Hardware ∷ []; needed = false }) (told t) (inr (inr (inr (inl refl)))) table)
 
   puts : Puts field_keys (field_pairs rv raw)
   unfolding field_pairs

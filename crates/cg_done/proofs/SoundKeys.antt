@@ -1,9 +1,8 @@
 -- A block that breaks no rule has no key twice in an object.
-use Rattle.std.proofs.Common.{◌≡◌, ℕ, Bool, true, false, ◌||◌, cond, List, [], ◌∷◌, ◌++◌, bytes_eq, inl, refl}
+use Rattle.std.proofs.Common.{◌≡◌, ℕ, Bool, true, false, ◌||◌, cond, List, [], ◌∷◌, ◌++◌, bytes_eq, refl}
 use Rattle.std.specs.List.{AllByRecursion, IsDistinct}
 use Rattle.cg_docspec.specs.Tree as document
 use Rattle.cg_finding.specs.Finding.{Finding, finding}
-use Rattle.cg_finding.proofs.Members.{in_left}
 use Rattle.cg_hjson.specs.Json.{Everywhere, HasKeysOnce, InMembers, InTrees, KeysDiffer, WithinKind, keys}
 use Rattle.cg_hjson.specs.Views.{tree_of}
 use Rattle.cg_hjson.specs.declared.tree.Tree.{Tree}

@@ -1,5 +1,5 @@
 -- A completed register breaks no rule.
-use Rattle.std.proofs.Common.{◌≡◌, ℕ, ◌+◌, ◌≤◌, true, false, not, ◌&&◌, ◌||◌, cond, is_some, inl, inr, length, codes, List, [], ◌∷◌, ◌++◌, map, Option, Some, None, option_map, option_and_then, unwrap_or, arith, refl, sym, ap, ◌∙◌}
+use Rattle.std.proofs.Common.{◌≡◌, ℕ, ◌+◌, ◌≤◌, true, false, not, ◌&&◌, ◌||◌, Bool, cond, is_some, inl, inr, length, codes, List, [], ◌∷◌, ◌++◌, map, Option, Some, None, option_map, option_and_then, unwrap_or, arith, refl, sym, ap, ◌∙◌}
 use Rattle.std.proofs.lemmas.Bool.{and_parts}
 use Rattle.std.proofs.lemmas.List.{length-map}
 use Rattle.std.specs.List.{list_all, list_any}
@@ -28,7 +28,7 @@ use Rattle.cg_done.proofs.Registers.{register_word}
 use Rattle.cg_done.proofs.SoundCompleted.{Puts, has_put, keeps, not_true_is, object_completed, only_form, table_of}
 use Rattle.cg_done.proofs.SoundEntries.{field_good, fit_at_told, has_other, is_absent, is_inside, is_judged, is_true_told, kinds_good, register_good, shadow_good, takes_other}
 use Rattle.cg_done.proofs.SoundFew.{AllBits, few_bits}
-use Rattle.cg_done.proofs.SoundFields.{FieldIsGood, HeadIsGood, bits_if, field_completed, full_bits, full_narrow, full_takes, kinds_fit, may_fit}
+use Rattle.cg_done.proofs.SoundFields.{FieldIsGood, HeadIsGood, bits_if, field_completed, full_bits, full_narrow, full_takes, kinds_fit, may_fit, row_good}
 use Rattle.cg_done.proofs.SoundTables.{elements_of, key_good, object_good, table_good}
 use Rattle.cg_done.proofs.SoundValues.{are_apart, has_some, is_narrow, own_bits, register_values_good, reset_by_told, reset_told, strays}
 use Rattle.cg_done.proofs.Told.{told}
@@ -111,12 +111,6 @@ name_needed (Some e) h = by (as_str e) (only_form Name e h) where
 -- the rows of a register, and more
 abbrev pub rows : List Key → List Key
 rows more = register_keys ++ more
-
--- what a row asks
-row_good : (ks : List Key) (k : Key) (d : Data) → Among k ks → table_good ks d ≡ true → key_good k (get k.key d) ≡ true
-row_good [] k d among good = absurd among
-row_good (j ∷ ks) k d (inl is) good = ap (λ l. key_good l (get l.key d)) is ∙ (and_parts (key_good j (get j.key d)) (table_good ks d) good).0
-row_good (j ∷ ks) k d (inr among) good = row_good ks k d among (and_parts (key_good j (get j.key d)) (table_good ks d) good).1
 
 -- what stands at the key of a row, if anything, has one of its forms
 row_fits : (more : List Key) (k : Key) (d : Data) → Among k (rows more) → table_good (rows more) d ≡ true → fit_at_told k.forms k.key d ≡ true
