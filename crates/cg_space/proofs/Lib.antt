@@ -9,3 +9,7 @@ pub mod Tabling
 pub mod Merged
 pub mod OneList
 pub mod Judging
+pub mod Telling
+pub mod Numbering
+pub mod Checking
+pub mod Spacing

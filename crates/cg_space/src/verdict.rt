@@ -1,9 +1,9 @@
 //! What is wrong at a node.
 
-ghost use Rattle.std.specs.Prelude.{◌≡◌, ◌↔◌, ◌<◌, ℕ, [], true, get_or, length, IsTrue};
+ghost use Rattle.std.specs.Prelude.{◌≡◌, ◌↔◌, ◌<◌, ℕ, [], false, get_or, length, IsTrue};
 ghost use Rattle.cg_svspec.specs.Names.{Among};
 ghost use Rattle.cg_svspec.specs.Printable.{AllOf};
-ghost use Rattle.cg_space.specs.Inner.Marks.{marks_of};
+ghost use Rattle.cg_space.specs.Inner.Marks.{AreMarks};
 ghost use Rattle.cg_space.specs.Inner.Sound.{HasNode, IsDeviceAt, IsSound};
 ghost use Rattle.cg_space.specs.Inner.Tables.{AreLinks, IsTable};
 ghost use Rattle.cg_space.specs.Inner.Verdicts.{DevicesMeet, HostMeets, IsCircleVerdict, IsRangeVerdict, MeetsEarlier, SomeHostMeets};
@@ -26,15 +26,24 @@ pub struct Verdict {
     pub is_shared: bool,
 }
 
+/// Whether `to` is marked in the list of `from`.
+fn is_marked(marks: &[List<bool>], from: usize, to: usize) -> bool
+    requires from { from < length marks.now }
+    requires to { to < length (get_or marks.now from []) }
+    ensures { result ≡ get_or (get_or marks.now from []) to false }
+{
+    marks[from].as_slice()[to]
+}
+
 /// Whether a node is a device in a circle, by what each crossbar leads to.
 pub fn circle_verdict(top: &MergedTop, xbar: usize, node: usize, marks: &[List<bool>]) -> Verdict
     requires sound { IsSound top.now }
     requires there { HasNode top.now xbar node }
-    requires links { (links : Items (Items ℕ)) × AreLinks top.now links × (length marks.now ≡ length links) × ((x : ℕ) → x < length links → get_or marks.now x [] ≡ marks_of links x) }
+    requires links { (links : Items (Items ℕ)) × AreLinks top.now links × AreMarks links marks.now }
     ensures { IsCircleVerdict top.now xbar node result }
 {
     let is_in_circle = match nested_in(top, xbar, node) {
-        Some(inner) => marks[inner as usize].as_slice()[xbar],
+        Some(inner) => is_marked(marks, inner as usize, xbar),
         None => false,
     };
     Verdict {

@@ -1,5 +1,5 @@
 -- What is wrong at each node, and what is told of it.
-use Rattle.std.specs.Prelude.{ℕ, ◌≡◌, ◌↔◌, ◌⊎◌, ◌<◌, true, List, [], length, get_or, slice_get, Option, Some, None, Result, Ok, Err}
+use Rattle.std.specs.Prelude.{ℕ, ◌≡◌, ◌↔◌, ◌⊎◌, ◌<◌, true, List, [], length, slice_get, Option, Some, None, Result, Ok, Err}
 use Rattle.cg_svspec.specs.Names.{Among}
 use Rattle.cg_desc.specs.Ends.{CrossbarIs}
 use Rattle.cg_desc.specs.Faults.{Before}
@@ -16,7 +16,7 @@ use Rattle.cg_desc.specs.declared.top.MergedTop.{MergedTop}
 use Rattle.cg_finding.specs.Finding.{Finding, in_file}
 use Rattle.cg_finding.specs.Rules as rules
 use Rattle.cg_finding.specs.Violations.{IsFirstFault}
-use Rattle.cg_space.specs.Violations.{HasBadRanges, HasSharedRange, IsInCircle}
+use Rattle.cg_space.specs.Violations.{DeviceAt, HasBadRanges, HasSharedRange, IsInCircle}
 use Rattle.cg_space.specs.Inner.Sound.{IsDeviceAt}
 use Rattle.cg_space.specs.declared.verdict.Verdict.{Verdict}
 
@@ -111,6 +111,21 @@ IsEarlier None b kept = kept ≡ b
 IsEarlier (Some f) None kept = kept ≡ Some f
 IsEarlier (Some f) (Some g) kept = ((kept ≡ Some f) × ¬ Before g f) ⊎ ((kept ≡ Some g) × Before g f)
 
+-- a device in a circle, told in its crossbar's file
+pub record Circles (m : MergedTop) (f : Fault) : Type 0 where
+  pub x : ℕ
+  pub n : ℕ
+  pub xbar : XbarDesc
+  pub node : NodeDesc
+  pub device : DeviceAt m x n xbar node
+  pub circle : IsInCircle m x n
+  pub says : f ≡ in_file xbar.file (rules.crossbars_in_a_circle node.at node.name)
+
+-- a device whose ranges are wrong, or share an address
+pub data WrongRanges (m : MergedTop) (f : Fault) : Type 0 where
+  bad : (x n : ℕ) (xbar : XbarDesc) (node : NodeDesc) → DeviceAt m x n xbar node → HasBadRanges m x n → f ≡ in_file xbar.file (rules.bad_range node.at node.name) → WrongRanges m f
+  shared : (x n : ℕ) (xbar : XbarDesc) (node : NodeDesc) → DeviceAt m x n xbar node → HasSharedRange m x n xbar → f ≡ in_file xbar.file (rules.ranges_overlap node.at node.name) → WrongRanges m f
+
 -- nothing is broken, or the first that is; want of memory says nothing
 abbrev pub Judges : {X : Type 0} → Result X DescFault → (Fault → Type 0) → Type 0
 Judges (Ok x) Breaks = (f : Fault) → ¬ Breaks f
@@ -119,12 +134,17 @@ Judges (Err refusal.Memory) Breaks = Unit {0}
 
 -- ---- all verdicts
 
--- each node of crossbar x has its verdict
+-- each node of crossbar x has its verdict, by what this says of it
 pub record AreVerdicts (m : MergedTop) (Is : ℕ → ℕ → Verdict → Type 0) (x : ℕ) (verdicts : List Verdict) : Type 0 where
   pub count : (xbar : XbarDesc) → CrossbarIs (design_of m) x xbar → length verdicts ≡ length xbar.nodes
   pub each : (n : ℕ) (v : Verdict) → slice_get verdicts n ≡ Some v → Is x n v
 
--- each node of each crossbar has
-pub record HaveVerdicts (m : MergedTop) (Is : ℕ → ℕ → Verdict → Type 0) (all : List (List Verdict)) : Type 0 where
+-- there are as many verdicts as there are nodes
+pub record HaveCounts (m : MergedTop) (all : List (List Verdict)) : Type 0 where
   pub count : length all ≡ length m.xbars
-  pub each : (x : ℕ) (verdicts : List Verdict) → slice_get all x ≡ Some verdicts → AreVerdicts m Is x verdicts
+  pub each : (x : ℕ) (verdicts : List Verdict) (xbar : XbarDesc) → slice_get all x ≡ Some verdicts → CrossbarIs (design_of m) x xbar → length verdicts ≡ length xbar.nodes
+
+-- so has each node of each crossbar
+pub record HaveVerdicts (m : MergedTop) (Is : ℕ → ℕ → Verdict → Type 0) (all : List (List Verdict)) : Type 0 where
+  pub counts : HaveCounts m all
+  pub each : (x n : ℕ) (verdicts : List Verdict) (v : Verdict) → slice_get all x ≡ Some verdicts → slice_get verdicts n ≡ Some v → Is x n v
