@@ -1,11 +1,10 @@
 -- What all verdicts say of a merged top.
-use Rattle.std.proofs.Common.{◌≡◌, ◌↔◌, ℕ, zero, suc, ◌+◌, ◌<◌, ◌≤◌, Bool, true, false, List, [], ◌∷◌, ◌⊎◌, inl, inr, Option, Some, None, Result, Ok, Err, length, map, get_or, slice_get, refl, sym, ap, ◌∙◌, subst, arith}
-use Rattle.std.proofs.lemmas.Bool.{cases_lt, false≢true}
+use Rattle.std.proofs.Common.{◌≡◌, ℕ, zero, suc, ◌<◌, ◌≤◌, Bool, false, List, [], ◌∷◌, ◌⊎◌, inl, inr, Some, Result, Ok, Err, length, map, get_or, slice_get, refl, ap, ◌∙◌, subst, arith}
+use Rattle.std.proofs.lemmas.Bool.{cases_lt}
 use Rattle.std.proofs.lemmas.Option.{slice_get_within}
 use Rattle.cg_desc.specs.Ends.{CrossbarIs}
-use Rattle.cg_desc.specs.Faults.{Before}
-use Rattle.cg_desc.specs.Merged.{design_of, NodeAt, EndAt}
-use Rattle.cg_desc.specs.Reach.{Leads, Nests, NoCircle}
+use Rattle.cg_desc.specs.Merged.{design_of, NodeAt}
+use Rattle.cg_desc.specs.Reach.{NoCircle}
 use Rattle.cg_desc.specs.declared.crossbar.NodeDesc.{NodeDesc}
 use Rattle.cg_desc.specs.declared.crossbar.XbarDesc.{XbarDesc}
 use Rattle.cg_desc.specs.declared.fault.Fault.{Fault}
@@ -15,13 +14,12 @@ use Rattle.cg_desc.specs.declared.top.MergedTop.{MergedTop}
 use Rattle.cg_desc.proofs.Numbered.{item_at}
 use Rattle.cg_finding.specs.Finding.{Finding, in_file}
 use Rattle.cg_finding.specs.Rules as rules
-use Rattle.cg_finding.specs.Violations.{IsFirstFault}
 use Rattle.cg_space.specs.Answers.{Answers}
-use Rattle.cg_space.specs.Violations.{DeviceAt, HasBadRanges, HasSharedRange, IsInCircle, NoViolation, Violates}
-use Rattle.cg_space.specs.Inner.Marks.{AreMarks, count, marks_of, rank}
-use Rattle.cg_space.specs.Inner.Sound.{HasNode, IsDeviceAt, IsSound}
+use Rattle.cg_space.specs.Violations.{DeviceAt, HasSharedRange, IsInCircle, NoViolation, Violates}
+use Rattle.cg_space.specs.Inner.Marks.{AreMarks, count, rank}
+use Rattle.cg_space.specs.Inner.Sound.{IsDeviceAt, IsSound}
 use Rattle.cg_space.specs.Inner.Tables.{AreLinks, RanksFall}
-use Rattle.cg_space.specs.Inner.Verdicts.{Circles, CrossbarTells, FaultBelow, FaultOf, FaultOfAll, HaveVerdicts, IsCircleVerdict, IsRangeVerdict, IsVerdict, Judges, NodeTells, SharesSome, Tells, WrongRanges}
+use Rattle.cg_space.specs.Inner.Verdicts.{Circles, FaultOfAll, HaveVerdicts, IsCircleVerdict, IsRangeVerdict, Judges, SharesSome, Tells, WrongRanges}
 use Rattle.cg_space.specs.declared.verdict.Verdict.{Verdict}
 use Rattle.cg_space.proofs.Linking.{links_within, no_loop}
 use Rattle.cg_space.proofs.Marking.{rank_falls, rank_within}
@@ -210,11 +208,11 @@ ranks_fall m links marks sound are marked free x y nests =
     let there : y < length links = link_there in
     let falls = rank_falls links x y (links_within m links sound are) (no_loop m links are free) here link in
     omega (arith, falls, rank_is links marks x marked here, rank_is links marks y marked there)
-    where
-  link_there : y < length links
-  link_there =
-      let inner = sound.inner x nests.number y ((nests.device, nests.is, nests.is_device), nests.stands) in
-      omega (arith, are.count, xbar_within m y inner.0 (inner.1, inner.2.is))
+  where
+    link_there : y < length links
+    link_there =
+        let inner = sound.inner x nests.number y ((nests.device, nests.is, nests.is_device), nests.stands) in
+        omega (arith, are.count, xbar_within m y inner.0 (inner.1, inner.2.is))
 
 pub length_map : {X Y : Type 0} (f : X → Y) (xs : List X) → length (map f xs) ≡ length xs
 length_map f [] = refl

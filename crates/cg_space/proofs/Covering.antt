@@ -1,5 +1,5 @@
 -- What is kept of two lists of ranges, one after the other.
-use Rattle.std.proofs.Common.{◌≡◌, ℕ, ◌↔◌, Bool, true, false, ◌&&◌, ◌||◌, not, IsTrue, Result, Ok, Err, OnOk, List, [], ◌∷◌, ◌++◌, ◌⊎◌, inl, inr, refl, sym, ap, ◌∙◌, subst, arith}
+use Rattle.std.proofs.Common.{◌≡◌, ℕ, ◌↔◌, Bool, true, false, ◌&&◌, ◌||◌, not, IsTrue, Result, Ok, Err, OnOk, List, [], ◌∷◌, ◌++◌, ◌⊎◌, inl, inr, refl, sym, ◌∙◌}
 use Rattle.std.proofs.lemmas.Bool.{false≢true}
 use Rattle.cg_svspec.specs.Printable.{AllOf}
 use Rattle.cg_desc.specs.Ranges.{IsRange}
@@ -163,13 +163,13 @@ coverage_add rs ss s t cells shared ranges p q region covers told appends = reco
     ],
   );
   listed = λ good apart.
-    let goods = neither s.is_bad t.is_bad good in
-    let aparts = neither (s.is_shared || t.is_shared) shared apart in
-    let both = neither s.is_shared t.is_shared aparts.0 in
-    let wanted : not ((s.is_bad || t.is_bad) || ((s.is_shared || t.is_shared) || shared)) ≡ true = rw (good, apart) refl in
-    let left : s.ranges ≡ rs = p.listed goods.0 both.0 in
-    let right : t.ranges ≡ ss = q.listed goods.1 both.1 in
-    appends wanted ∙ rw (left, right) refl;
+      let goods = neither s.is_bad t.is_bad good in
+      let aparts = neither (s.is_shared || t.is_shared) shared apart in
+      let both = neither s.is_shared t.is_shared aparts.0 in
+      let wanted : not ((s.is_bad || t.is_bad) || ((s.is_shared || t.is_shared) || shared)) ≡ true = rw (good, apart) refl in
+      let left : s.ranges ≡ rs = p.listed goods.0 both.0 in
+      let right : t.ranges ≡ ss = q.listed goods.1 both.1 in
+      appends wanted ∙ rw (left, right) refl;
 }
 
 pub on_ok : {A E P Q : Type 0} (r : Result A E) → OnOk r P → (P → Q) → OnOk r Q

@@ -1,37 +1,30 @@
 -- What is wrong at a node, by what is kept of its ranges.
-use Rattle.std.proofs.Common.{◌≡◌, ◌≢◌, ◌↔◌, ℕ, zero, suc, ◌+◌, ◌<◌, ◌≤◌, ◌^◌, Bool, ◌||◌, true, false, IsTrue, List, [], ◌∷◌, ◌⊎◌, inl, inr, Option, Some, None, length, get_or, slice_get, refl, sym, ap, ◌∙◌, subst, arith}
+use Rattle.std.proofs.Common.{◌≡◌, ◌≢◌, ◌↔◌, ℕ, zero, suc, ◌+◌, ◌<◌, ◌≤◌, Bool, ◌||◌, true, false, IsTrue, List, [], ◌∷◌, ◌⊎◌, inl, inr, Some, length, get_or, slice_get, refl, sym, ap, ◌∙◌, subst, arith}
 use Rattle.std.proofs.lemmas.Bool.{cases_lt, false≢true}
 use Rattle.std.proofs.lemmas.Option.{get_or_from_slice_get, slice_get_within, slice_get-get_or}
-use Rattle.cg_svspec.specs.Printable.{AllOf}
 use Rattle.cg_svspec.specs.Names.{Among}
-use Rattle.cg_desc.specs.Crossbar.{Connects, IsDevice, IsValidCrossbar}
 use Rattle.cg_desc.specs.Ends.{CrossbarIs}
-use Rattle.cg_desc.specs.Merged.{design_of, EndAt, NodeAt}
+use Rattle.cg_desc.specs.Merged.{design_of, NodeAt}
 use Rattle.cg_desc.specs.Ranges.{IsRange, RangeHolds, SomeHolds}
 use Rattle.cg_desc.specs.Reach.{HasRanges, Leads, Nests}
 use Rattle.cg_desc.specs.declared.crossbar.NodeDesc.{NodeDesc}
 use Rattle.cg_desc.specs.declared.crossbar.Range.{Range}
 use Rattle.cg_desc.specs.declared.crossbar.XbarDesc.{XbarDesc}
 use Rattle.cg_desc.specs.declared.top.MergedTop.{MergedTop}
-use Rattle.cg_desc.specs.declared.top.NodeEnd.{NodeEnd}
 use Rattle.cg_desc.specs.declared.top.NodeEnd.TheVariants.{Xbar}
-use Rattle.cg_desc.proofs.Numbered.{item_number, same_item}
-use Rattle.cg_space.specs.Shared.{SharesAt}
-use Rattle.cg_space.specs.Violations.{HasBadRanges, HasSharedRange, IsBadList, IsInCircle, ShareWithin, SharesWithEarlier}
-use Rattle.cg_space.specs.Inner.Coverages.{HasBad, HaveAddress, IsCoverage, Meet, MeetWithin}
-use Rattle.cg_space.specs.Inner.Graph.{IsReached}
+use Rattle.cg_desc.proofs.Numbered.{item_number}
+use Rattle.cg_space.specs.Violations.{HasBadRanges, IsBadList, IsInCircle, ShareWithin, SharesWithEarlier}
+use Rattle.cg_space.specs.Inner.Coverages.{HasBad, HaveAddress, Meet, MeetWithin}
 use Rattle.cg_space.specs.Inner.Marks.{marks_of}
 use Rattle.cg_space.specs.Inner.Regions.{Shares}
 use Rattle.cg_space.specs.Inner.Sound.{HasNode, IsDeviceAt, IsNestedAt, IsSound}
-use Rattle.cg_space.specs.Inner.Tables.{AreLinks, IsKept, IsTable}
-use Rattle.cg_space.specs.Inner.Verdicts.{DevicesMeet, HostMeets, IsCircleVerdict, IsRangeVerdict, IsVerdict, MeetsEarlier, SharesSome, SomeHostMeets}
+use Rattle.cg_space.specs.Inner.Tables.{AreLinks, IsKept}
+use Rattle.cg_space.specs.Inner.Verdicts.{DevicesMeet, HostMeets, IsCircleVerdict, IsRangeVerdict, MeetsEarlier, SharesSome, SomeHostMeets}
 use Rattle.cg_space.specs.declared.coverage.Coverage.{Coverage}
-use Rattle.cg_space.specs.declared.verdict.Verdict.{Verdict}
 use Rattle.cg_space.proofs.Linking.{leads_reached, links_within, nested_there, reached_leads}
 use Rattle.cg_space.proofs.Marking.{marked_is_reached, reached_is_marked}
 use Rattle.cg_space.proofs.OneList.{has_once}
-use Rattle.cg_space.proofs.Sound.{one_end, one_node, one_there, xbar_within}
-use Rattle.cg_space.proofs.Tabling.{kept_read}
+use Rattle.cg_space.proofs.Sound.{one_end, one_node, one_there}
 
 -- ---- lists of ranges, by their members and by their places
 
@@ -59,33 +52,38 @@ of_bad (s ∷ rs) r (inr among) bad = inr (of_bad rs r among bad)
 
 -- one range more in front
 shares_later : (r : Range) (rs : List Range) → ShareWithin rs → ShareWithin (r ∷ rs)
-shares_later r rs s = (suc s.0, record {
-  i = suc s.1.i;
-  order = omega (arith, s.1.order);
-  earlier = s.1.earlier;
-  later = s.1.later;
-  earlier_is = s.1.earlier_is;
-  later_is = s.1.later_is;
-  address = s.1.address;
-  earlier_holds = s.1.earlier_holds;
-  later_holds = s.1.later_holds;
-})
+shares_later r rs s = (
+  suc s.0,
+  record {
+    i = suc s.1.i;
+    order = omega (arith, s.1.order);
+    earlier = s.1.earlier;
+    later = s.1.later;
+    earlier_is = s.1.earlier_is;
+    later_is = s.1.later_is;
+    address = s.1.address;
+    earlier_holds = s.1.earlier_holds;
+    later_holds = s.1.later_holds;
+  },
+)
 
 shares_first : (r : Range) (rs : List Range) → Meet (r ∷ []) rs → ShareWithin (r ∷ rs)
 shares_first r rs meet =
     let later = some_of rs meet.address meet.right in
-    let number = item_number rs later.0 later.1 in
-    (suc number.0, record {
-      i = 0;
-      order = omega arith;
-      earlier = r;
-      later = later.0;
-      earlier_is = refl;
-      later_is = number.1;
-      address = meet.address;
-      earlier_holds = elim meet.left [ inl here ↦ here | inr none ↦ absurd none ];
-      later_holds = later.2;
-    })
+    let number = item_number rs later.0 later.1 in (
+      suc number.0,
+      record {
+        i = 0;
+        order = omega arith;
+        earlier = r;
+        later = later.0;
+        earlier_is = refl;
+        later_is = number.1;
+        address = meet.address;
+        earlier_holds = elim meet.left [ inl here ↦ here | inr none ↦ absurd none ];
+        later_holds = later.2;
+      },
+    )
 
 pub share_of : (rs : List Range) → MeetWithin rs → ShareWithin rs
 share_of [] h = absurd h
@@ -117,14 +115,16 @@ pub circle_at : (m : MergedTop) (x n y : ℕ) (links : List (List ℕ)) (mark : 
 circle_at m x n y links mark sound are nested is = (to, from) where
   nests : Nests m x y
   nests = record { number = n; device = nested.0.0; is = nested.0.1; is_device = nested.0.2; stands = nested.1 }
+
   to : mark ≡ true → IsDeviceAt m x n × IsInCircle m x n
   to marked = (nested.0, record { inner = y; stands = nested.1; back = reached_leads m links y x are (marked_is_reached links y x (sym is ∙ marked)) })
+
   from : (IsDeviceAt m x n × IsInCircle m x n) → mark ≡ true
   from circle =
       let same : Xbar circle.1.inner ≡ Xbar y = one_end m x n (Xbar circle.1.inner) (Xbar y) circle.1.stands nested.1 in
       let inner : circle.1.inner ≡ y = cc in
       is ∙ reached_is_marked links y x (omega (arith, are.count, nested_there m x y sound nests)) (links_within m links sound are)
-        (leads_reached m links y x are (subst (λ k. Leads m k x) inner circle.1.back))
+      (leads_reached m links y x are (subst (λ k. Leads m k x) inner circle.1.back))
 
 -- and what stands for no crossbar is in none
 pub no_circle_at : (m : MergedTop) (x n : ℕ) → ((y : ℕ) → ¬ IsNestedAt m x n y) → ¬ (IsDeviceAt m x n × IsInCircle m x n)
@@ -147,9 +147,9 @@ meet_read m x c d p q told sound here there exact = (
   λ meet. exact.1 (record {
     address = meet.address;
     in_left = (here.2.covers meet.address).1 (have_of here.0 meet.address
-      (subst (λ (l : List Range). SomeHolds l meet.address) (has_once m sound x c meet.first here.0 meet.first_has here.1) meet.first_holds));
+        (subst (λ (l : List Range). SomeHolds l meet.address) (has_once m sound x c meet.first here.0 meet.first_has here.1) meet.first_holds));
     in_right = (there.2.covers meet.address).1 (have_of there.0 meet.address
-      (subst (λ (l : List Range). SomeHolds l meet.address) (has_once m sound x d meet.second there.0 meet.second_has there.1) meet.second_holds));
+        (subst (λ (l : List Range). SomeHolds l meet.address) (has_once m sound x d meet.second there.0 meet.second_has there.1) meet.second_holds));
   }),
 )
 
@@ -163,10 +163,17 @@ or_true false b = (λ h. inr h, λ h. elim h [ inl one ↦ absurd (false≢true 
 pub bad_exact : (m : MergedTop) (x n : ℕ) (c : Coverage) → IsSound m → IsDeviceAt m x n → IsKept m x n c
     → ((c.is_empty || c.is_bad) ≡ true) ↔ (IsDeviceAt m x n × HasBadRanges m x n)
 bad_exact m x n c sound device kept = (
-  λ h. (device, (kept.0, kept.1, elim ((or_true c.is_empty c.is_bad).0 h) [
-    | inl empty ↦ inl (kept.2.empty.0 empty)
-    | inr bad ↦ inr (bad_of kept.0 (kept.2.bad.0 bad))
-  ])),
+  λ h. (
+    device,
+    (
+      kept.0,
+      kept.1,
+      elim ((or_true c.is_empty c.is_bad).0 h) [
+        | inl empty ↦ inl (kept.2.empty.0 empty)
+        | inr bad ↦ inr (bad_of kept.0 (kept.2.bad.0 bad))
+      ],
+    ),
+  ),
   λ has. by has.1.2 (has_once m sound x n has.1.0 kept.0 has.1.1 kept.1),
 ) where
   by : {rs : List Range} → IsBadList rs → rs ≡ kept.0 → (c.is_empty || c.is_bad) ≡ true
@@ -200,26 +207,49 @@ meets_of m x n xbar rs sound is has some =
 of_meets : (m : MergedTop) (x n : ℕ) (xbar : XbarDesc) (rs : List Range) → CrossbarIs (design_of m) x xbar → HasRanges m x n rs → SharesWithEarlier m x n xbar rs
     → SomeHostMeets m x n
 of_meets m x n xbar rs is has s =
-    let same : s.to_later.0 ≡ s.to_earlier.0 = one_there xbar.nodes s.host s.to_later.0 s.to_earlier.0 s.to_later.1 s.to_earlier.1 in
-    (s.host, (s.to_later.0, record { crossbar = xbar; crossbar_is = is; is = s.to_later.1 }, s.to_later.2, s.to_later.3,
-      (s.device, subst (λ (h : NodeDesc). Among s.device h.to) (sym same) s.to_earlier.3, s.order, record {
-        first = s.its_ranges;
-        first_has = s.has;
-        second = rs;
-        second_has = has;
-        address = s.address;
-        first_holds = s.earlier_holds;
-        second_holds = s.later_holds;
-      })))
+    let same : s.to_later.0 ≡ s.to_earlier.0 = one_there xbar.nodes s.host s.to_later.0 s.to_earlier.0 s.to_later.1 s.to_earlier.1 in (
+      s.host,
+      (
+        s.to_later.0,
+        record { crossbar = xbar; crossbar_is = is; is = s.to_later.1 },
+        s.to_later.2,
+        s.to_later.3,
+        (
+          s.device,
+          subst (λ (h : NodeDesc). Among s.device h.to) (sym same) s.to_earlier.3,
+          s.order,
+          record {
+            first = s.its_ranges;
+            first_has = s.has;
+            second = rs;
+            second_has = has;
+            address = s.address;
+            first_holds = s.earlier_holds;
+            second_holds = s.later_holds;
+          },
+        ),
+      ),
+    )
 
 -- a device has a shared range exactly where its coverage tells so, or a host meets it
 pub shared_exact : (m : MergedTop) (x n : ℕ) (c : Coverage) (meets : Bool) → IsSound m → IsDeviceAt m x n → IsKept m x n c → (IsTrue meets ↔ SomeHostMeets m x n)
     → ((c.is_shared || meets) ≡ true) ↔ (IsDeviceAt m x n × SharesSome m x n)
 shared_exact m x n c meets sound device kept exact = (
-  λ h. (device, (device.1.crossbar, device.1.crossbar_is, (kept.0, kept.1, elim ((or_true c.is_shared meets).0 h) [
-    | inl one ↦ inl (share_of kept.0 (kept.2.shared.0 one))
-    | inr two ↦ inr (meets_of m x n device.1.crossbar kept.0 sound device.1.crossbar_is kept.1 (exact.0 two))
-  ]))),
+  λ h. (
+    device,
+    (
+      device.1.crossbar,
+      device.1.crossbar_is,
+      (
+        kept.0,
+        kept.1,
+        elim ((or_true c.is_shared meets).0 h) [
+          | inl one ↦ inl (share_of kept.0 (kept.2.shared.0 one))
+          | inr two ↦ inr (meets_of m x n device.1.crossbar kept.0 sound device.1.crossbar_is kept.1 (exact.0 two))
+        ],
+      ),
+    ),
+  ),
   λ has. by has.1.0 has.1.1 has.1.2.0 has.1.2.1 has.1.2.2,
 ) where
   by : (xbar : XbarDesc) → CrossbarIs (design_of m) x xbar → (rs : List Range) → HasRanges m x n rs → ShareWithin rs ⊎ SharesWithEarlier m x n xbar rs → (c.is_shared || meets) ≡ true
@@ -278,7 +308,6 @@ none_is_all xs y k all none among =
     let number = item_number xs y among in
     none number.0 y (omega (arith, all, slice_get_within xs number.0 y number.1)) number.1 refl
 
-
 -- ---- marks that are read
 
 pub marks_read : (marks : List (List Bool)) (y : ℕ) (read want : List Bool) → y < length marks → read ≡ get_or marks y read → get_or marks y [] ≡ want → read ≡ want
@@ -303,6 +332,6 @@ pub host_verdict : (m : MergedTop) (x n : ℕ) (node : NodeDesc) → NodeAt m x 
 host_verdict m x n node at is_host = range_verdict_is m x n false false
     (λ h. absurd (false≢true h), λ has. absurd (not_device has.0))
     (λ h. absurd (false≢true h), λ has. absurd (not_device has.0))
-    where
-  not_device : ¬ IsDeviceAt m x n
-  not_device device = false≢true (sym device.2 ∙ ap (λ (d : NodeDesc). d.host) (one_node m x n device.0 node device.1 at) ∙ is_host)
+  where
+    not_device : ¬ IsDeviceAt m x n
+    not_device device = false≢true (sym device.2 ∙ ap (λ (d : NodeDesc). d.host) (one_node m x n device.0 node device.1 at) ∙ is_host)

@@ -13,3 +13,4 @@ pub mod Telling
 pub mod Numbering
 pub mod Checking
 pub mod Spacing
+pub mod Sharing

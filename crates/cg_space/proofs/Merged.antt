@@ -1,19 +1,17 @@
 -- A valid merged top is sound: each number in it names a thing that is there.
-use Rattle.std.proofs.Common.{◌≡◌, ◌≢◌, ℕ, zero, suc, ◌+◌, ◌<◌, ◌≤◌, ◌^◌, Bool, not, true, false, List, [], ◌∷◌, Option, Some, None, length, map, slice_get, inl, inr, refl, sym, ap, ◌∙◌, subst, arith}
+use Rattle.std.proofs.Common.{◌≡◌, ℕ, zero, suc, ◌<◌, ◌≤◌, ◌^◌, Bool, not, true, false, List, [], ◌∷◌, Option, Some, None, length, map, slice_get, refl, sym, ap, ◌∙◌, subst, arith}
 use Rattle.std.proofs.lemmas.Bool.{false≢true}
 use Rattle.std.proofs.lemmas.Option.{slice_get_within}
 use Rattle.cg_svspec.specs.Names.{Among}
-use Rattle.cg_svspec.specs.Printable.{AllOf}
 use Rattle.cg_desc.specs.Crossbar.{IsValidCrossbar}
-use Rattle.cg_desc.specs.Ends.{BlockIs, CrossbarIs, InstanceIs, IsOf, Joins, Means, NamesFace, NamesHost, NodeOf, StandsFor, device_interfaces}
+use Rattle.cg_desc.specs.Ends.{Joins, Means, NamesFace, StandsFor, device_interfaces}
 use Rattle.cg_desc.specs.Laid.{IsLaid}
-use Rattle.cg_desc.specs.Merged.{AreEnds, AreKinds, BaseIs, EndAt, FaceAt, IsMerged, IsValidLaidBlock, IsValidMerged, NodeAt, alone, all_outside, design_of}
+use Rattle.cg_desc.specs.Merged.{EndAt, FaceAt, IsMerged, IsValidLaidBlock, IsValidMerged, NodeAt, alone, all_outside, design_of}
 use Rattle.cg_desc.specs.Reach.{IsInnerHost}
 use Rattle.cg_desc.specs.declared.block.LaidBlock.{LaidBlock}
 use Rattle.cg_desc.specs.declared.block.LaidFace.{LaidFace}
 use Rattle.cg_desc.specs.declared.crossbar.NodeDesc.{NodeDesc}
 use Rattle.cg_desc.specs.declared.crossbar.XbarDesc.{XbarDesc}
-use Rattle.cg_desc.specs.declared.top.InstDesc.{InstDesc}
 use Rattle.cg_desc.specs.declared.top.MergedTop.{MergedTop}
 use Rattle.cg_desc.specs.declared.top.NodeEnd.{NodeEnd}
 use Rattle.cg_desc.specs.declared.top.NodeEnd.TheVariants.{Face, Host, Xbar, Outside}
@@ -21,8 +19,8 @@ use Rattle.cg_desc.specs.declared.top.XbarEnds.{XbarEnds}
 use Rattle.cg_desc.proofs.Blocks.{one_block}
 use Rattle.cg_desc.proofs.FoundBases.{base_once}
 use Rattle.cg_desc.proofs.Numbered.{item_at, item_among, item_number, same_item}
-use Rattle.cg_space.specs.Inner.Sound.{HasNode, IsDeviceAt, IsNestedAt, IsSound}
-use Rattle.cg_space.proofs.Sound.{one_node, xbar_within}
+use Rattle.cg_space.specs.Inner.Sound.{HasNode, IsNestedAt, IsSound}
+use Rattle.cg_space.proofs.Sound.{xbar_within}
 use Rattle.cg_space.proofs.Tabling.{all_at}
 
 length_map : {A B : Type 0} (f : A → B) (xs : List A) → length (map f xs) ≡ length xs
@@ -34,7 +32,7 @@ length_map f (x ∷ xs) = ap suc (length_map f xs)
 few_crossbars : (m : MergedTop) → IsMerged m → length m.xbars ≤ 16
 few_crossbars m is =
     let same : length m.xbars ≡ length m.top.xbars =
-      sym (length_map (λ (x : XbarDesc). x.name) m.xbars) ∙ ap length is.files.crossbars ∙ length_map (λ u. u.name) m.top.xbars in
+    sym (length_map (λ (x : XbarDesc). x.name) m.xbars) ∙ ap length is.files.crossbars ∙ length_map (λ u. u.name) m.top.xbars in
     omega (arith, same, is.top.few_crossbars)
 
 -- what a node stands for
@@ -140,17 +138,20 @@ inner_there m is x n y nested =
       partner_faces = not_not joins.partner.host node.host joins.partner_faces;
       partner_names = joins.names;
     } in
-    let is_x : end.0 ≡ Xbar x = stands_back m is y x joins.partner end.0 joins.partner_nested back (stands m is y number.0 joins.partner end.0 there end.1) in
-    (number.0, joins.partner, record {
-      is = there;
-      is_host = not_false joins.partner.host node.host joins.partner_faces nested.0.2;
-      stands = subst (λ (e : NodeEnd). EndAt m y number.0 e) is_x end.1;
-    })
-    where
-  node_among : (outer : XbarDesc) → slice_get m.xbars x ≡ Some outer → Among nested.0.0 outer.nodes
-  node_among outer is_outer =
-      let same : nested.0.1.crossbar ≡ outer = same_item m.xbars x nested.0.1.crossbar outer nested.0.1.crossbar_is is_outer in
-      subst (λ (c : XbarDesc). Among nested.0.0 c.nodes) same (item_among nested.0.1.crossbar.nodes n nested.0.0 nested.0.1.is)
+    let is_x : end.0 ≡ Xbar x = stands_back m is y x joins.partner end.0 joins.partner_nested back (stands m is y number.0 joins.partner end.0 there end.1) in (
+      number.0,
+      joins.partner,
+      record {
+        is = there;
+        is_host = not_false joins.partner.host node.host joins.partner_faces nested.0.2;
+        stands = subst (λ (e : NodeEnd). EndAt m y number.0 e) is_x end.1;
+      },
+    )
+  where
+    node_among : (outer : XbarDesc) → slice_get m.xbars x ≡ Some outer → Among nested.0.0 outer.nodes
+    node_among outer is_outer =
+        let same : nested.0.1.crossbar ≡ outer = same_item m.xbars x nested.0.1.crossbar outer nested.0.1.crossbar_is is_outer in
+        subst (λ (c : XbarDesc). Among nested.0.0 c.nodes) same (item_among nested.0.1.crossbar.nodes n nested.0.0 nested.0.1.is)
 
 one_inner : (m : MergedTop) → IsMerged m → (x y k l : ℕ) (a b : NodeDesc) → IsInnerHost m x y k a → IsInnerHost m x y l b → k ≡ l
 one_inner m is x y k l a b p q =
@@ -168,11 +169,11 @@ merged_is_sound m is = record {
   count = is.ends.count;
   counts = λ x xbar ends at there. is.ends.counts x xbar ends at there;
   faces = λ x n i f end.
-    let node = node_there m is x n (Face i f) end in
-    let face = face_by m is x n i f node.0 (Face i f) refl (stands m is x n node.0 (Face i f) node.1 end) in
-    (is, face.0, face.1, face.2);
+      let node = node_there m is x n (Face i f) end in
+      let face = face_by m is x n i f node.0 (Face i f) refl (stands m is x n node.0 (Face i f) node.1 end) in
+      (is, face.0, face.1, face.2);
   hosts = λ x n i f end device.
-    false≢true (sym device.2 ∙ host_by m x i f device.0 (Host i f) refl (stands m is x n device.0 (Host i f) device.1 end));
+      false≢true (sym device.2 ∙ host_by m x i f device.0 (Host i f) refl (stands m is x n device.0 (Host i f) device.1 end));
   inner = λ x n y nested. inner_there m is x n y nested;
   one_inner = λ x y k l a b p q. one_inner m is x y k l a b p q;
   one_base = λ i f a b p q. base_once m is i f a b p q;

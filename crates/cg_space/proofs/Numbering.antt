@@ -1,10 +1,10 @@
 -- Lists that grow by one item at a time.
-use Rattle.std.proofs.Common.{◌≡◌, ℕ, zero, suc, ◌+◌, ◌<◌, ◌≤◌, List, [], ◌∷◌, ◌++◌, ◌⊎◌, inl, inr, Some, length, slice_get, refl, sym, ap, ◌∙◌, subst, arith}
+use Rattle.std.proofs.Common.{◌≡◌, ℕ, zero, suc, ◌+◌, List, [], ◌∷◌, ◌++◌, ◌⊎◌, inl, inr, Some, length, slice_get, refl, sym, ap, ◌∙◌, subst, arith}
 use Rattle.cg_desc.specs.Ends.{CrossbarIs}
 use Rattle.cg_desc.specs.Merged.{design_of}
 use Rattle.cg_desc.specs.declared.crossbar.XbarDesc.{XbarDesc}
 use Rattle.cg_desc.specs.declared.top.MergedTop.{MergedTop}
-use Rattle.cg_space.specs.Inner.Verdicts.{AreVerdicts, HaveCounts, HaveVerdicts}
+use Rattle.cg_space.specs.Inner.Verdicts.{AreVerdicts, HaveVerdicts}
 use Rattle.cg_space.specs.declared.verdict.Verdict.{Verdict}
 
 pub at_end : {X : Type 0} (xs : List X) (x y : X) (i : ℕ) → slice_get (xs ++ x ∷ []) i ≡ Some y → (slice_get xs i ≡ Some y) ⊎ ((i ≡ length xs) × (y ≡ x))

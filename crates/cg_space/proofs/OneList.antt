@@ -1,13 +1,12 @@
 -- A device has one list of ranges.
-use Rattle.std.proofs.Common.{◌≡◌, ℕ, List, [], ◌∷◌, ◌++◌, Some, refl, sym, ap, ◌∙◌, subst}
-use Rattle.cg_desc.specs.Merged.{BaseIs, EndAt, FaceAt, NodeAt}
+use Rattle.std.proofs.Common.{◌≡◌, ℕ, List, [], ◌∷◌, refl, sym, ap, subst}
+use Rattle.cg_desc.specs.Merged.{BaseIs, FaceAt, NodeAt}
 use Rattle.cg_desc.specs.Reach.{HasRanges, HaveRanges, IsInnerHost, interface, outside, nested, nothing, more}
 use Rattle.cg_desc.specs.declared.block.LaidFace.{LaidFace}
 use Rattle.cg_desc.specs.declared.crossbar.NodeDesc.{NodeDesc}
 use Rattle.cg_desc.specs.declared.crossbar.Range.{Range}
 use Rattle.cg_desc.specs.declared.top.MergedTop.{MergedTop}
-use Rattle.cg_desc.specs.declared.top.NodeEnd.{NodeEnd}
-use Rattle.cg_desc.specs.declared.top.NodeEnd.TheVariants.{Face, Host, Xbar, Outside}
+use Rattle.cg_desc.specs.declared.top.NodeEnd.TheVariants.{Face, Xbar, Outside}
 use Rattle.cg_space.specs.Inner.Sound.{IsSound}
 use Rattle.cg_space.proofs.Sound.{one_end, one_face, one_node}
 

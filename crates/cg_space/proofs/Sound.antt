@@ -1,18 +1,15 @@
 -- Nodes and ends by their numbers.
-use Rattle.std.proofs.Common.{◌≡◌, ℕ, zero, suc, ◌+◌, ◌<◌, ◌≤◌, Bool, true, false, List, [], ◌∷◌, Option, Some, None, length, get_or, slice_get, refl, sym, ap, ◌∙◌, subst, arith}
+use Rattle.std.proofs.Common.{◌≡◌, ℕ, ◌<◌, List, Some, length, get_or, slice_get, refl, ◌∙◌, subst, arith}
 use Rattle.std.proofs.lemmas.Option.{slice_get_within, slice_get_read, slice_get-get_or, get_or_from_slice_get}
-use Rattle.std.proofs.lemmas.Bool.{false≢true}
-use Rattle.cg_desc.specs.Ends.{CrossbarIs, NodeOf}
-use Rattle.cg_desc.specs.Merged.{design_of, BlockAt, EndAt, FaceAt, NodeAt}
+use Rattle.cg_desc.specs.Merged.{BlockAt, EndAt, FaceAt, NodeAt}
 use Rattle.cg_desc.specs.declared.block.LaidBlock.{LaidBlock}
 use Rattle.cg_desc.specs.declared.block.LaidFace.{LaidFace}
 use Rattle.cg_desc.specs.declared.crossbar.NodeDesc.{NodeDesc}
 use Rattle.cg_desc.specs.declared.crossbar.XbarDesc.{XbarDesc}
 use Rattle.cg_desc.specs.declared.top.MergedTop.{MergedTop}
 use Rattle.cg_desc.specs.declared.top.NodeEnd.{NodeEnd}
-use Rattle.cg_desc.specs.declared.top.NodeEnd.TheVariants.{Face, Host, Xbar, Outside}
 use Rattle.cg_desc.specs.declared.top.XbarEnds.{XbarEnds}
-use Rattle.cg_space.specs.Inner.Sound.{HasNode, IsDeviceAt, IsNestedAt, IsSound}
+use Rattle.cg_space.specs.Inner.Sound.{HasNode, IsSound}
 
 -- what stands at a place is one thing
 pub one_there : {X : Type 0} (xs : List X) (i : ℕ) (a b : X) → slice_get xs i ≡ Some a → slice_get xs i ≡ Some b → a ≡ b
@@ -54,9 +51,11 @@ ends_within m x n ends sound has e =
 pub end_read : (m : MergedTop) (x n : ℕ) (ends : XbarEnds) (end : NodeEnd) → IsSound m → HasNode m x n → ends ≡ get_or m.ends x ends
     → end ≡ get_or ends.ends n end → EndAt m x n end
 end_read m x n ends end sound has e f =
-    let there : x < length m.ends = omega (arith, sound.count, xbar_within m x n has) in
-    (ends, slice_get_read m.ends (length m.ends) x ends refl there e,
-      slice_get_read ends.ends (length ends.ends) n end refl (ends_within m x n ends sound has e) f)
+    let there : x < length m.ends = omega (arith, sound.count, xbar_within m x n has) in (
+      ends,
+      slice_get_read m.ends (length m.ends) x ends refl there e,
+      slice_get_read ends.ends (length ends.ends) n end refl (ends_within m x n ends sound has e) f,
+    )
 
 -- ---- blocks and interfaces
 

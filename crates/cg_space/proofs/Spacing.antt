@@ -1,13 +1,11 @@
 -- The ranges of a crossbar in a top that breaks none of the rules on ranges.
-use Rattle.std.proofs.Common.{◌≡◌, ◌≢◌, ◌↔◌, ℕ, zero, suc, ◌+◌, ◌<◌, ◌≤◌, Bool, true, false, List, [], ◌∷◌, ◌⊎◌, inl, inr, Option, Some, None, length, map, get_or, slice_get, refl, sym, ap, ◌∙◌, subst, arith}
-use Rattle.std.proofs.lemmas.Bool.{cases_lt, false≢true}
-use Rattle.std.proofs.lemmas.Option.{slice_get_within}
-use Rattle.cg_svspec.specs.Names.{Among}
+use Rattle.std.proofs.Common.{◌≡◌, ℕ, ◌<◌, ◌≤◌, Bool, true, false, List, [], ◌∷◌, ◌⊎◌, inl, inr, Some, slice_get, refl, sym, ap, ◌∙◌, subst, arith}
+use Rattle.std.proofs.lemmas.Bool.{cases_lt}
 use Rattle.cg_svspec.specs.Printable.{AllOf, IsSomeOf}
-use Rattle.cg_desc.specs.Crossbar.{Connects, IsDevice, IsValidCrossbar, NodeIs}
+use Rattle.cg_desc.specs.Crossbar.{Connects, IsDevice, IsValidCrossbar}
 use Rattle.cg_desc.specs.Ends.{CrossbarIs}
-use Rattle.cg_desc.specs.Merged.{design_of, NodeAt}
-use Rattle.cg_desc.specs.Ranges.{AreRangesOf, HasAddress, IsRange, RangeHolds, RangesAre, SomeHolds}
+use Rattle.cg_desc.specs.Merged.{design_of}
+use Rattle.cg_desc.specs.Ranges.{AreRangesOf, IsRange, RangeHolds, RangesAre, SomeHolds}
 use Rattle.cg_desc.specs.Reach.{HasRanges, NoCircle}
 use Rattle.cg_desc.specs.declared.crossbar.NodeDesc.{NodeDesc}
 use Rattle.cg_desc.specs.declared.crossbar.NodeRanges.{NodeRanges}
@@ -16,17 +14,13 @@ use Rattle.cg_desc.specs.declared.crossbar.XbarDesc.{XbarDesc}
 use Rattle.cg_desc.specs.declared.fault.Fault.{Fault}
 use Rattle.cg_desc.specs.declared.top.MergedTop.{MergedTop}
 use Rattle.cg_desc.proofs.Numbered.{image_of}
-use Rattle.cg_finding.specs.Finding.{in_file}
-use Rattle.cg_finding.specs.Rules as rules
 use Rattle.cg_space.specs.Answers.{AreNodeRanges}
-use Rattle.cg_space.specs.Violations.{DeviceAt, HasBadRanges, HasSharedRange, IsBadList, NoViolation, ShareWithin, SharesWithEarlier, Violates}
-use Rattle.cg_space.specs.Inner.Coverages.{HasBad, IsCoverage, MeetWithin}
-use Rattle.cg_space.specs.Inner.Sound.{HasNode, IsDeviceAt, IsHostAt, IsSound}
+use Rattle.cg_space.specs.Violations.{DeviceAt, HasBadRanges, HasSharedRange, NoViolation, Violates}
+use Rattle.cg_space.specs.Inner.Sound.{IsDeviceAt, IsSound}
 use Rattle.cg_space.specs.Inner.Tables.{IsEntry, IsKept, IsTable, entries_of}
 use Rattle.cg_space.specs.declared.coverage.Coverage.{Coverage}
 use Rattle.cg_space.proofs.Checking.{length_map, no_circle}
 use Rattle.cg_space.proofs.Judging.{bad_of, share_of}
-use Rattle.cg_space.proofs.Sound.{one_node, one_there}
 use Rattle.cg_space.proofs.Tabling.{all_at}
 
 -- a top that breaks none of the rules has no circle
@@ -93,33 +87,44 @@ placed m x n xbar is device = (device.0, record { crossbar = xbar; crossbar_is =
 not_shared_within : (m : MergedTop) (x n i j a : ℕ) (xbar : XbarDesc) (rs : List Range) (r s : Range) → NoViolation m → CrossbarIs (design_of m) x xbar → IsDevice xbar n → HasRanges m x n rs
     → slice_get rs i ≡ Some r → slice_get rs j ≡ Some s → RangeHolds r a → RangeHolds s a → ¬ (i < j)
 not_shared_within m x n i j a xbar rs r s none is device has p q h k less =
-    none_shared m x n xbar device.0 none (record { crossbar_is = is; is = device.1; is_device = device.2 }) (rs, has, inl (j, record {
-      i = i;
-      order = less;
-      earlier = r;
-      later = s;
-      earlier_is = p;
-      later_is = q;
-      address = a;
-      earlier_holds = h;
-      later_holds = k;
-    }))
+    none_shared m x n xbar device.0 none (record { crossbar_is = is; is = device.1; is_device = device.2 }) (
+      rs,
+      has,
+      inl (
+        j,
+        record {
+          i = i;
+          order = less;
+          earlier = r;
+          later = s;
+          earlier_is = p;
+          later_is = q;
+          address = a;
+          earlier_holds = h;
+          later_holds = k;
+        },
+      ),
+    )
 
 not_earlier : (m : MergedTop) (x h d e a : ℕ) (xbar : XbarDesc) (rs ss : List Range) → NoViolation m → CrossbarIs (design_of m) x xbar → IsDevice xbar e → Connects xbar h d → Connects xbar h e
     → HasRanges m x d rs → HasRanges m x e ss → SomeHolds rs a → SomeHolds ss a → ¬ (d < e)
 not_earlier m x h d e a xbar rs ss none is device to_d to_e has_d has_e p q less =
-    none_shared m x e xbar device.0 none (record { crossbar_is = is; is = device.1; is_device = device.2 }) (ss, has_e, inr (record {
-      device = d;
-      order = less;
-      its_ranges = rs;
-      has = has_d;
-      host = h;
-      to_earlier = to_d;
-      to_later = to_e;
-      address = a;
-      earlier_holds = p;
-      later_holds = q;
-    }))
+    none_shared m x e xbar device.0 none (record { crossbar_is = is; is = device.1; is_device = device.2 }) (
+      ss,
+      has_e,
+      inr (record {
+        device = d;
+        order = less;
+        its_ranges = rs;
+        has = has_d;
+        host = h;
+        to_earlier = to_d;
+        to_later = to_e;
+        address = a;
+        earlier_holds = p;
+        later_holds = q;
+      }),
+    )
 
 alike : (i j : ℕ) → ¬ (i < j) → ¬ (j < i) → i ≡ j
 alike i j p q = by (cases_lt i j) (cases_lt j i) where
@@ -133,20 +138,21 @@ pub entries_fit : (m : MergedTop) (x : ℕ) (table : List Coverage) (xbar : Xbar
 entries_fit m x table xbar sound none is at = record {
   count = length_map (λ (c : Coverage). record { ranges = c.ranges }) table ∙ is.count xbar at;
   some = λ d rs device there. some_of_list rs.ranges (λ e.
-    none_bad m x d xbar device.0 none (record { crossbar_is = at; is = device.1; is_device = device.2 }) (rs.ranges, has d rs device there, inl e));
+      none_bad m x d xbar device.0 none (record { crossbar_is = at; is = device.1; is_device = device.2 }) (rs.ranges, has d rs device there, inl e));
   shapes = λ d rs device there. (entry_has m x d table rs none is (placed m x d xbar at device) there).1;
   differ = λ d i j a rs r s device there p q h k.
-    alike i j (not_shared_within m x d i j a xbar rs.ranges r s none at device (has d rs device there) p q h k)
-    (not_shared_within m x d j i a xbar rs.ranges s r none at device (has d rs device there) q p k h);
+      alike i j (not_shared_within m x d i j a xbar rs.ranges r s none at device (has d rs device there) p q h k)
+      (not_shared_within m x d j i a xbar rs.ranges s r none at device (has d rs device there) q p k h);
   apart = λ h d e a to_d to_e p q.
-    let device_d = valid.devices_only h d to_d in
-    let device_e = valid.devices_only h e to_e in
-    let some_d : SomeHolds p.0.ranges a = (p.2, p.3, p.4) in
-    let some_e : SomeHolds q.0.ranges a = (q.2, q.3, q.4) in
-    alike d e (not_earlier m x h d e a xbar p.0.ranges q.0.ranges none at device_e to_d to_e (has d p.0 device_d p.1) (has e q.0 device_e q.1) some_d some_e)
-    (not_earlier m x h e d a xbar q.0.ranges p.0.ranges none at device_d to_e to_d (has e q.0 device_e q.1) (has d p.0 device_d p.1) some_e some_d);
+      let device_d = valid.devices_only h d to_d in
+      let device_e = valid.devices_only h e to_e in
+      let some_d : SomeHolds p.0.ranges a = (p.2, p.3, p.4) in
+      let some_e : SomeHolds q.0.ranges a = (q.2, q.3, q.4) in
+      alike d e (not_earlier m x h d e a xbar p.0.ranges q.0.ranges none at device_e to_d to_e (has d p.0 device_d p.1) (has e q.0 device_e q.1) some_d some_e)
+      (not_earlier m x h e d a xbar q.0.ranges p.0.ranges none at device_d to_e to_d (has e q.0 device_e q.1) (has d p.0 device_d p.1) some_e some_d);
 } where
   valid : IsValidCrossbar xbar
   valid = all_at IsValidCrossbar m.xbars x xbar sound.crossbars at
+
   has : (d : ℕ) (rs : NodeRanges) → IsDevice xbar d → RangesAre (entries_of table) d rs → HasRanges m x d rs.ranges
   has d rs device there = (entry_has m x d table rs none is (placed m x d xbar at device) there).0

@@ -1,11 +1,11 @@
 -- The first fault of all nodes.
-use Rattle.std.proofs.Common.{◌≡◌, ◌≢◌, ◌↔◌, ℕ, zero, suc, ◌+◌, ◌<◌, ◌≤◌, Bool, true, false, IsTrue, List, [], ◌∷◌, ◌⊎◌, inl, inr, Option, Some, None, Result, Ok, Err, length, get_or, slice_get, refl, sym, ap, ◌∙◌, subst, arith}
+use Rattle.std.proofs.Common.{◌≡◌, ◌↔◌, ℕ, ◌+◌, ◌<◌, ◌≤◌, Bool, true, false, List, ◌⊎◌, inl, inr, Option, Some, None, slice_get, refl, sym, ap, ◌∙◌, subst, arith}
 use Rattle.std.specs.Ordering.{is_gt, ordering_reverse}
 use Rattle.std.specs.declared.cmp.Ordering.{Ordering}
 use Rattle.std.specs.declared.cmp.Ordering.TheVariants.{Less, Equal, Greater}
 use Rattle.std.proofs.lemmas.Bool.{cases_lt, false≢true}
 use Rattle.std.proofs.lemmas.Cmp.{upto}
-use Rattle.std.proofs.lemmas.Option.{slice_get_within, slice_get-get_or}
+use Rattle.std.proofs.lemmas.Option.{slice_get_within}
 use Rattle.cg_desc.specs.Crossbar.{IsValidCrossbar}
 use Rattle.cg_desc.specs.Ends.{CrossbarIs}
 use Rattle.cg_desc.specs.Faults.{Before, fault_cmp}
@@ -13,21 +13,18 @@ use Rattle.cg_desc.specs.Merged.{design_of, NodeAt}
 use Rattle.cg_desc.specs.declared.crossbar.NodeDesc.{NodeDesc}
 use Rattle.cg_desc.specs.declared.crossbar.XbarDesc.{XbarDesc}
 use Rattle.cg_desc.specs.declared.fault.Fault.{Fault}
-use Rattle.cg_desc.specs.declared.fault.DescFault.{DescFault}
 use Rattle.cg_desc.specs.declared.fault.DescFault.TheVariants as refusal
 use Rattle.cg_desc.specs.declared.top.MergedTop.{MergedTop}
-use Rattle.cg_desc.proofs.FaultOrder.{before_irreflexive, before_transitive, before_total, fault_cmp-Less, fault_cmp_total}
-use Rattle.cg_desc.proofs.Numbered.{same_item}
+use Rattle.cg_desc.proofs.FaultOrder.{before_irreflexive, before_transitive, fault_cmp-Less, fault_cmp_total}
 use Rattle.cg_finding.specs.Finding.{Finding, earlier, in_file}
-use Rattle.cg_finding.specs.Refusal.{Names}
 use Rattle.cg_finding.specs.Rules as rules
 use Rattle.cg_finding.specs.Told.{TellsFirst}
-use Rattle.cg_finding.specs.Violations.{IsFirstFault, IsFirstViolation, RefusesFirst}
-use Rattle.cg_finding.proofs.Told.{BrokenBelow, none_broken, tells_all, tells_as, tells_either, tells_next, tells_nothing, tells_one}
+use Rattle.cg_finding.specs.Violations.{IsFirstFault, RefusesFirst}
+use Rattle.cg_finding.proofs.Told.{BrokenBelow, none_broken, tells_all, tells_as, tells_either, tells_nothing, tells_one}
 use Rattle.cg_space.specs.Inner.Sound.{HasNode, IsSound}
-use Rattle.cg_space.specs.Inner.Verdicts.{CrossbarTells, FaultBelow, FaultOf, FaultOfAll, IsEarlier, IsFirstIfAny, Judges, NodeTells, Tells}
+use Rattle.cg_space.specs.Inner.Verdicts.{CrossbarTells, FaultBelow, FaultOf, IsEarlier, IsFirstIfAny, NodeTells, Tells}
 use Rattle.cg_space.specs.declared.verdict.Verdict.{Verdict}
-use Rattle.cg_space.proofs.Sound.{one_node, one_there, xbar_within}
+use Rattle.cg_space.proofs.Sound.{one_node, one_there}
 use Rattle.cg_space.proofs.Tabling.{all_at}
 
 -- ---- one node
@@ -50,6 +47,7 @@ tells_node node v circle range overlap told p q r is = rw is (tells_as (tells_ei
   to f (inl h) = rw h.1 (Tells.circle h.0)
   to f (inr (inl h)) = rw h.1 (Tells.bad_range h.0)
   to f (inr (inr h)) = rw h.1 (Tells.overlap h.0)
+
   from : (f : Finding) → Tells node v f → If v.is_in_circle (rules.crossbars_in_a_circle node.at node.name) f ⊎ (If v.is_bad (rules.bad_range node.at node.name) f ⊎ If v.is_shared (rules.ranges_overlap node.at node.name) f)
   from f (Tells.circle h) = inl (h, refl)
   from f (Tells.bad_range h) = inr (inl (h, refl))
@@ -69,9 +67,9 @@ pub tells_here : (m : MergedTop) (x n : ℕ) (verdicts : List Verdict) (node : N
 tells_here m x n verdicts node v told at is t = tells_as t
     (λ f tells. record { node = node; is = at; verdict = v; verdict_is = is; tells = tells })
     (λ f broken.
-      let same : broken.node ≡ node = one_node m x n broken.node node broken.is at in
-      let flag : broken.verdict ≡ v = one_there verdicts n broken.verdict v broken.verdict_is is in
-      subst (λ (d : NodeDesc). Tells d v f) same (subst (λ (w : Verdict). Tells broken.node w f) flag broken.tells))
+    let same : broken.node ≡ node = one_node m x n broken.node node broken.is at in
+    let flag : broken.verdict ≡ v = one_there verdicts n broken.verdict v broken.verdict_is is in
+    subst (λ (d : NodeDesc). Tells d v f) same (subst (λ (w : Verdict). Tells broken.node w f) flag broken.tells))
 
 pub tells_crossbar : (m : MergedTop) (x k : ℕ) (verdicts : List Verdict) (told : Option Finding) → ((n : ℕ) → (n < k) ↔ HasNode m x n)
     → TellsFirst told (BrokenBelow (NodeTells m x verdicts) k) → TellsFirst told (CrossbarTells m x verdicts)
@@ -88,9 +86,9 @@ pub first_in_file : (m : MergedTop) (x : ℕ) (xbar : XbarDesc) (verdicts : List
 first_in_file m x xbar verdicts fault is refuses = record {
   violates = record { xbar = xbar; crossbar_is = is; finding = refuses.0; tells = refuses.2.violates; says = refuses.1 };
   least = λ other broken before.
-    let same : broken.xbar ≡ xbar = one_there m.xbars x broken.xbar xbar broken.crossbar_is is in
-    let file : other ≡ in_file xbar.file broken.finding = broken.says ∙ ap (λ (c : XbarDesc). in_file c.file broken.finding) same in
-    refuses.2.least xbar.file broken.finding broken.tells (rw refuses.1 at (rw file at before));
+      let same : broken.xbar ≡ xbar = one_there m.xbars x broken.xbar xbar broken.crossbar_is is in
+      let file : other ≡ in_file xbar.file broken.finding = broken.says ∙ ap (λ (c : XbarDesc). in_file c.file broken.finding) same in
+      refuses.2.least xbar.file broken.finding broken.tells (rw refuses.1 at (rw file at before));
 }
 
 -- ---- two files
@@ -141,11 +139,13 @@ first_more m all k verdicts first fault kept is earlier_is p q = first_as _ _ ke
   to : (f : Fault) → FaultBelow m all k f ⊎ FaultOf m k verdicts f → FaultBelow m all (k + 1) f
   to f (inl b) = record { number = b.number; below = omega (arith, b.below); verdicts = b.verdicts; verdicts_are = b.verdicts_are; fault = b.fault }
   to f (inr b) = record { number = k; below = omega arith; verdicts = verdicts; verdicts_are = is; fault = b }
+
   by : (f : Fault) (b : FaultBelow m all (k + 1) f) → (b.number < k) ⊎ (k ≤ b.number) → FaultBelow m all k f ⊎ FaultOf m k verdicts f
   by f b (inl less) = inl (record { number = b.number; below = less; verdicts = b.verdicts; verdicts_are = b.verdicts_are; fault = b.fault })
   by f b (inr more) =
       let here : b.number ≡ k = omega (arith, more, b.below) in
       let same : b.verdicts ≡ verdicts = one_there all k b.verdicts verdicts (subst (λ i. slice_get all i ≡ Some b.verdicts) here b.verdicts_are) is in
       inr (subst (λ (vs : List Verdict). FaultOf m k vs f) same (subst (λ i. FaultOf m i b.verdicts f) here b.fault))
+
   from : (f : Fault) → FaultBelow m all (k + 1) f → FaultBelow m all k f ⊎ FaultOf m k verdicts f
   from f b = by f b (cases_lt b.number k)

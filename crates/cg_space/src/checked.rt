@@ -54,7 +54,11 @@ pub fn marks_of(alloc: Global, top: &MergedTop) -> Result<List<List<bool>>, Memo
 }
 
 /// What is kept of each node's ranges, in a top without a circle.
-pub fn tables_of(alloc: Global, top: &MergedTop, marks: &[List<bool>]) -> Result<List<List<Coverage>>, Memory>
+pub fn tables_of(
+    alloc: Global,
+    top: &MergedTop,
+    marks: &[List<bool>],
+) -> Result<List<List<Coverage>>, Memory>
     requires sound { IsSound top.now }
     requires free { NoCircle top.now }
     requires links { (links : Items (Items ℕ)) × AreLinks top.now links × AreMarks links marks.now }

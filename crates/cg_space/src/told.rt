@@ -31,7 +31,10 @@ fn first_of_node<'a>(node: &'a NodeDesc, verdict: Verdict) -> Option<Found<'a>>
     ensures { TellsFirst (sees result) (Tells node.now verdict) }
 {
     let name = node.name.as_str();
-    let circle = found_if(verdict.is_in_circle, Found::crossbars_in_a_circle(node.at, name));
+    let circle = found_if(
+        verdict.is_in_circle,
+        Found::crossbars_in_a_circle(node.at, name),
+    );
     let range = found_if(verdict.is_bad, Found::bad_range(node.at, name));
     let overlap = found_if(verdict.is_shared, Found::ranges_overlap(node.at, name));
     earlier_of(circle, earlier_of(range, overlap))
@@ -53,7 +56,12 @@ fn first_of_crossbar<'a>(top: &'a MergedTop, xbar: usize, verdicts: &[Verdict]) 
 }
 
 /// The first fault of a crossbar's file, if there is one.
-fn fault_of_crossbar(alloc: Global, top: &MergedTop, xbar: usize, verdicts: &[Verdict]) -> Result<Option<Fault>, Memory>
+fn fault_of_crossbar(
+    alloc: Global,
+    top: &MergedTop,
+    xbar: usize,
+    verdicts: &[Verdict],
+) -> Result<Option<Fault>, Memory>
     requires sound { IsSound top.now }
     requires there { xbar < length top.now.xbars }
     requires all { (x : Crossbar) → CrossbarIs (design_of top.now) xbar x → length verdicts.now ≡ length x.nodes }
@@ -85,7 +93,11 @@ fn earlier_fault(first: Option<Fault>, second: Option<Fault>) -> Option<Fault>
 }
 
 /// The first fault of all crossbars, each with the verdicts of its nodes.
-pub fn first_fault(alloc: Global, top: &MergedTop, verdicts: &[List<Verdict>]) -> Result<(), DescFault>
+pub fn first_fault(
+    alloc: Global,
+    top: &MergedTop,
+    verdicts: &[List<Verdict>],
+) -> Result<(), DescFault>
     requires sound { IsSound top.now }
     requires all { HaveCounts top.now verdicts.now }
     ensures { Judges result (FaultOfAll top.now verdicts.now) }

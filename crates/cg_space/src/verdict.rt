@@ -54,14 +54,23 @@ pub fn circle_verdict(top: &MergedTop, xbar: usize, node: usize, marks: &[List<b
 }
 
 /// Whether two devices share an address.
-fn devices_meet(top: &MergedTop, xbar: usize, table: &[Coverage], first: usize, second: usize) -> bool
+fn devices_meet(
+    top: &MergedTop,
+    xbar: usize,
+    table: &[Coverage],
+    first: usize,
+    second: usize,
+) -> bool
     requires sound { IsSound top.now }
     requires table { IsTable top.now xbar table.now }
     requires first { IsDeviceAt top.now xbar first }
     requires second { IsDeviceAt top.now xbar second }
     ensures { IsTrue result ↔ DevicesMeet top.now xbar first second }
 {
-    share(table[first].cells.as_slice(), table[second].cells.as_slice())
+    share(
+        table[first].cells.as_slice(),
+        table[second].cells.as_slice(),
+    )
 }
 
 /// Whether a device is an earlier one than `node`, and shares an address with it.

@@ -14,7 +14,12 @@ use cg_desc::MergedTop;
 use std::alloc::Global;
 
 /// Which nodes of a crossbar are devices in a circle.
-fn circles_in(alloc: Global, top: &MergedTop, xbar: usize, marks: &[List<bool>]) -> Result<List<Verdict>, Memory>
+fn circles_in(
+    alloc: Global,
+    top: &MergedTop,
+    xbar: usize,
+    marks: &[List<bool>],
+) -> Result<List<Verdict>, Memory>
     requires sound { IsSound top.now }
     requires there { xbar < length top.now.xbars }
     requires links { (links : Items (Items ℕ)) × AreLinks top.now links × AreMarks links marks.now }
@@ -28,7 +33,11 @@ fn circles_in(alloc: Global, top: &MergedTop, xbar: usize, marks: &[List<bool>])
 }
 
 /// Which nodes are devices in a circle, by what each crossbar leads to.
-pub fn circles(alloc: Global, top: &MergedTop, marks: &[List<bool>]) -> Result<List<List<Verdict>>, Memory>
+pub fn circles(
+    alloc: Global,
+    top: &MergedTop,
+    marks: &[List<bool>],
+) -> Result<List<List<Verdict>>, Memory>
     requires sound { IsSound top.now }
     requires links { (links : Items (Items ℕ)) × AreLinks top.now links × AreMarks links marks.now }
     ensures { IfOk result (HaveVerdicts top.now (IsCircleVerdict top.now)) }
@@ -41,7 +50,12 @@ pub fn circles(alloc: Global, top: &MergedTop, marks: &[List<bool>]) -> Result<L
 }
 
 /// What is wrong with the ranges of the nodes of a crossbar.
-fn wrong_in(alloc: Global, top: &MergedTop, xbar: usize, table: &[Coverage]) -> Result<List<Verdict>, Memory>
+fn wrong_in(
+    alloc: Global,
+    top: &MergedTop,
+    xbar: usize,
+    table: &[Coverage],
+) -> Result<List<Verdict>, Memory>
     requires sound { IsSound top.now }
     requires there { xbar < length top.now.xbars }
     requires table { IsTable top.now xbar table.now }
@@ -55,7 +69,11 @@ fn wrong_in(alloc: Global, top: &MergedTop, xbar: usize, table: &[Coverage]) -> 
 }
 
 /// What is wrong with the ranges of the nodes, by what is kept of each.
-pub fn wrong_ranges(alloc: Global, top: &MergedTop, tables: &[List<Coverage>]) -> Result<List<List<Verdict>>, Memory>
+pub fn wrong_ranges(
+    alloc: Global,
+    top: &MergedTop,
+    tables: &[List<Coverage>],
+) -> Result<List<List<Verdict>>, Memory>
     requires sound { IsSound top.now }
     requires tables { AreTables top.now tables.now }
     ensures { IfOk result (HaveVerdicts top.now (IsRangeVerdict top.now)) }

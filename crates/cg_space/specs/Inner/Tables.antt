@@ -1,5 +1,5 @@
 -- Tables of what is kept of the ranges of a crossbar's nodes.
-use Rattle.std.specs.Prelude.{ℕ, ◌≡◌, ◌<◌, ◌≤◌, ◌⊎◌, ◌↔◌, List, [], ◌∷◌, length, map, get_or, slice_get, Option, Some, None}
+use Rattle.std.specs.Prelude.{ℕ, ◌≡◌, ◌<◌, ◌⊎◌, ◌↔◌, List, [], ◌∷◌, length, map, get_or, slice_get, Option, Some, None}
 use Rattle.cg_desc.specs.Ends.{CrossbarIs}
 use Rattle.cg_desc.specs.Merged.{design_of, FaceAt, BaseIs}
 use Rattle.cg_desc.specs.Reach.{HasRanges, HaveRanges, Nests}

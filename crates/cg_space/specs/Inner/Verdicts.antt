@@ -1,5 +1,5 @@
 -- What is wrong at each node, and what is told of it.
-use Rattle.std.specs.Prelude.{ℕ, ◌≡◌, ◌↔◌, ◌⊎◌, ◌<◌, true, List, [], length, slice_get, Option, Some, None, Result, Ok, Err}
+use Rattle.std.specs.Prelude.{ℕ, ◌≡◌, ◌↔◌, ◌⊎◌, ◌<◌, true, List, length, slice_get, Option, Some, None, Result, Ok, Err}
 use Rattle.cg_svspec.specs.Names.{Among}
 use Rattle.cg_desc.specs.Ends.{CrossbarIs}
 use Rattle.cg_desc.specs.Faults.{Before}

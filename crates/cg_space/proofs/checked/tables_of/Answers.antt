@@ -1,4 +1,3 @@
-use Rattle.std.proofs.Common.{◌∙◌}
 use Rattle.cg_space.proofs.Checking.{ranks_fall, ranks_within}
 use Rattle.cg_space.proofs.checked.tables_of.Goals as goal
 

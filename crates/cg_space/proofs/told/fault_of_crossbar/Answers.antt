@@ -1,4 +1,4 @@
-use Rattle.std.proofs.Common.{sym, length, get_or}
+use Rattle.std.proofs.Common.{sym, get_or}
 use Rattle.std.proofs.lemmas.Option.{slice_get-get_or}
 use Rattle.cg_desc.specs.declared.fault.DescFault.TheVariants as refusal
 use Rattle.cg_finding.specs.Found.{seen}
@@ -13,6 +13,6 @@ pub returns-in-Fault : goal.returns-in-Fault
 returns-in-Fault c =
     let told = c.in-Some.ensures in
     let refuses = refuses_first (refusal.Fault c.in-Fault.fault) (get_or c.as_slice.result.now c.args.xbar c.index-as_slice-xbar.result).file (seen c.in-Some.found) told
-      (c.in-Fault.ensures.refuses told.faults (sym told.first)) in
+    (c.in-Fault.ensures.refuses told.faults (sym told.first)) in
     first_in_file c.args.top.now c.args.xbar (get_or c.args.top.now.xbars c.args.xbar c.index-as_slice-xbar.result) c.args.verdicts.now c.in-Fault.fault
     (slice_get-get_or c.args.top.now.xbars c.args.xbar c.index-as_slice-xbar.result c.requires.there) (rw c.as_slice.ensures at refuses)

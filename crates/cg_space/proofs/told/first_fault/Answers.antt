@@ -1,7 +1,7 @@
 use Rattle.std.proofs.Common.{◌≡◌, ◌<◌, refl, length, arith}
 use Rattle.std.proofs.lemmas.Option.{slice_get_read}
 use Rattle.cg_space.specs.Inner.Verdicts.{FaultBelow, IsFirstIfAny}
-use Rattle.cg_space.proofs.Telling.{first_more, none_below}
+use Rattle.cg_space.proofs.Telling.{first_more}
 use Rattle.cg_space.proofs.told.first_fault.Goals as goal
 
 pub loop-xbar-preserved : goal.loop-xbar-preserved

@@ -1,4 +1,4 @@
-use Rattle.std.proofs.Common.{◌≡◌, ◌∙◌, ◌<◌, length, arith}
+use Rattle.std.proofs.Common.{◌≡◌, ◌<◌, length, arith}
 use Rattle.std.proofs.lemmas.Option.{slice_get-get_or}
 use Rattle.cg_finding.proofs.Told.{tells_next, tells_start}
 use Rattle.cg_space.proofs.Telling.{few_nodes, tells_crossbar, tells_here}
@@ -30,7 +30,7 @@ pub loop-node-preserved : goal.loop-node-preserved
 loop-node-preserved c =
     tells_next c.loop-node.node c.loop-node.invariant
     (tells_here c.args.top.now c.args.xbar c.loop-node.node c.args.verdicts.now c.node_at.result.now _ _ c.node_at.ensures
-      (slice_get-get_or c.args.verdicts.now c.loop-node.node _ (within (goal.at.loop-node-preserved c).After-node_at)) c.first_of_node-of_node.ensures)
+    (slice_get-get_or c.args.verdicts.now c.loop-node.node _ (within (goal.at.loop-node-preserved c).After-node_at)) c.first_of_node-of_node.ensures)
     c.earlier_of-first.ensures
 
 pub returns : goal.returns

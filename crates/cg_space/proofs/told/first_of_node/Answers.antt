@@ -1,7 +1,6 @@
 use Rattle.std.proofs.Common.{◌∙◌, ap}
 use Rattle.cg_finding.specs.Found.{sees}
 use Rattle.cg_finding.specs.Finding.{earlier}
-use Rattle.cg_finding.specs.Rules as rules
 use Rattle.cg_space.proofs.Telling.{tells_node}
 use Rattle.cg_space.proofs.told.first_of_node.Goals as goal
 

@@ -1,4 +1,4 @@
-use Rattle.std.proofs.Common.{◌≡◌, ◌∙◌, ◌<◌, length, get_or, ap, false, arith}
+use Rattle.std.proofs.Common.{◌∙◌, ◌<◌, length, get_or, ap, false, arith}
 use Rattle.std.proofs.lemmas.Bool.{false≢true}
 use Rattle.cg_space.proofs.Judging.{circle_at, circle_verdict_is, no_circle_at}
 use Rattle.cg_space.proofs.Linking.{nested_there}
@@ -28,7 +28,7 @@ returns-in-Some c =
     let known : c.in-Some.inner < length c.requires.links.0 = omega (arith, c.requires.links.1.count, inner_within (goal.at.returns-in-Some c).In-Some) in
     circle_verdict_is c.args.top.now c.args.xbar c.args.node _
     (circle_at c.args.top.now c.args.xbar c.args.node c.in-Some.inner c.requires.links.0 _ c.requires.sound c.requires.links.1
-      ((c.nested_in.ensures c.in-Some.inner).0 c.in-Some.is) (c.is_marked-is_in_circle.ensures ∙ ap (λ l. get_or l c.args.xbar false) (c.requires.links.2.each c.in-Some.inner known)))
+    ((c.nested_in.ensures c.in-Some.inner).0 c.in-Some.is) (c.is_marked-is_in_circle.ensures ∙ ap (λ l. get_or l c.args.xbar false) (c.requires.links.2.each c.in-Some.inner known)))
 
 pub returns-in-None : goal.returns-in-None
 returns-in-None c =

@@ -1,4 +1,4 @@
-use Rattle.std.proofs.Common.{◌∙◌, refl, sym, ap, length, get_or, false, arith}
+use Rattle.std.proofs.Common.{◌∙◌, refl, ap, length, get_or, false, arith}
 use Rattle.cg_space.proofs.Judging.{marks_read}
 use Rattle.cg_space.proofs.verdict.is_marked.Goals as goal
 

@@ -1,4 +1,4 @@
-use Rattle.std.proofs.Common.{◌≡◌, refl, arith}
+use Rattle.std.proofs.Common.{◌≡◌, arith}
 use Rattle.std.proofs.lemmas.Bool.{false≢true}
 use Rattle.cg_space.proofs.Judging.{no_host_all, no_host_more}
 use Rattle.cg_space.proofs.verdict.some_host_meets.Goals as goal
@@ -12,8 +12,7 @@ loop-host-preserved c =
 
 pub returns : goal.returns
 returns c =
-    let all : c.loop-host.host ≡ c.node_count-host-end.result = omega (arith, c.loop-host.auto.host-end, c.loop-host-test.false) in
-    (
+    let all : c.loop-host.host ≡ c.node_count-host-end.result = omega (arith, c.loop-host.auto.host-end, c.loop-host-test.false) in (
       λ h. absurd (false≢true h),
       λ some. absurd (no_host_all c.args.top.now c.args.xbar c.args.node c.node_count-host-end.result c.node_count-host-end.ensures.nodes (rw all at c.loop-host.invariant) some),
     )

@@ -1,4 +1,4 @@
-use Rattle.std.proofs.Common.{◌≡◌, sym, ◌∙◌, arith}
+use Rattle.std.proofs.Common.{◌≡◌, ◌∙◌, arith}
 use Rattle.cg_space.specs.Inner.Verdicts.{IsCircleVerdict}
 use Rattle.cg_space.proofs.Numbering.{none_below, one_below, verdicts_of}
 use Rattle.cg_space.proofs.verdicts.circles_in.Goals as goal
