@@ -1,6 +1,8 @@
 -- What is kept of two lists of ranges, one after the other.
-use Rattle.std.proofs.Common.{◌≡◌, ℕ, ◌↔◌, Bool, true, false, ◌&&◌, ◌||◌, not, IsTrue, Result, Ok, Err, OnOk, List, [], ◌∷◌, ◌++◌, ◌⊎◌, inl, inr, refl, sym, ap, ◌∙◌, subst, arith}
+use Rattle.std.proofs.Common.{◌≡◌, ℕ, ◌↔◌, Bool, true, false, ◌&&◌, ◌||◌, not, IsTrue, Result, Ok, Err, OnOk, List, [], ◌∷◌, ◌++◌, ◌⊎◌, inl, inr, refl, sym, ◌∙◌}
 use Rattle.std.proofs.lemmas.Bool.{false≢true}
+use Rattle.cg_svspec.specs.Printable.{AllOf}
+use Rattle.cg_desc.specs.Ranges.{IsRange}
 use Rattle.cg_desc.specs.declared.crossbar.Range.{Range}
 use Rattle.cg_space.specs.Inner.Regions.{Covers, IsRegion, Shares}
 use Rattle.cg_space.specs.Inner.Coverages.{HasBad, HaveAddress, IsCoverage, Meet, MeetWithin}
@@ -122,6 +124,10 @@ neither : (a b : Bool) → (a || b) ≡ false → (a ≡ false) × (b ≡ false)
 neither true b h = absurd (false≢true (sym h))
 neither false b h = (refl, h)
 
+all_both : (xs ys : List Range) → AllOf IsRange xs → AllOf IsRange ys → AllOf IsRange (xs ++ ys)
+all_both [] ys p q = q
+all_both (x ∷ xs) ys p q = (p.0, all_both xs ys p.1 q)
+
 -- one list behind another
 pub coverage_add : (rs ss : List Range) (s t : Coverage) (cells : List Cell) (shared : Bool) (ranges : List Range) → IsCoverage rs s → IsCoverage ss t → IsRegion cells
     → ((a : ℕ) → Covers cells a ↔ (Covers s.cells a ⊎ Covers t.cells a)) → (IsTrue shared ↔ Shares s.cells t.cells)
@@ -141,6 +147,7 @@ coverage_add rs ss s t cells shared ranges p q region covers told appends = reco
     λ h. elim (or_either s.is_bad t.is_bad h) [ inl l ↦ bad_left rs ss (p.bad.0 l) | inr r ↦ bad_right rs ss (q.bad.0 r) ],
     λ h. elim (bad_either rs ss h) [ inl l ↦ or_left s.is_bad t.is_bad (p.bad.1 l) | inr r ↦ or_right s.is_bad t.is_bad (q.bad.1 r) ],
   );
+  good = λ h. let both = neither s.is_bad t.is_bad h in all_both rs ss (p.good both.0) (q.good both.1);
   shared = (
     λ h. elim (or_either (s.is_shared || t.is_shared) shared h) [
       | inl one ↦ elim (or_either s.is_shared t.is_shared one) [
@@ -156,13 +163,13 @@ coverage_add rs ss s t cells shared ranges p q region covers told appends = reco
     ],
   );
   listed = λ good apart.
-    let goods = neither s.is_bad t.is_bad good in
-    let aparts = neither (s.is_shared || t.is_shared) shared apart in
-    let both = neither s.is_shared t.is_shared aparts.0 in
-    let wanted : not ((s.is_bad || t.is_bad) || ((s.is_shared || t.is_shared) || shared)) ≡ true = rw (good, apart) refl in
-    let left : s.ranges ≡ rs = p.listed goods.0 both.0 in
-    let right : t.ranges ≡ ss = q.listed goods.1 both.1 in
-    appends wanted ∙ rw (left, right) refl;
+      let goods = neither s.is_bad t.is_bad good in
+      let aparts = neither (s.is_shared || t.is_shared) shared apart in
+      let both = neither s.is_shared t.is_shared aparts.0 in
+      let wanted : not ((s.is_bad || t.is_bad) || ((s.is_shared || t.is_shared) || shared)) ≡ true = rw (good, apart) refl in
+      let left : s.ranges ≡ rs = p.listed goods.0 both.0 in
+      let right : t.ranges ≡ ss = q.listed goods.1 both.1 in
+      appends wanted ∙ rw (left, right) refl;
 }
 
 pub on_ok : {A E P Q : Type 0} (r : Result A E) → OnOk r P → (P → Q) → OnOk r Q

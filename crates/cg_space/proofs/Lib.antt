@@ -6,3 +6,11 @@ pub mod Covering
 pub mod Sound
 pub mod Linking
 pub mod Tabling
+pub mod Merged
+pub mod OneList
+pub mod Judging
+pub mod Telling
+pub mod Numbering
+pub mod Checking
+pub mod Spacing
+pub mod Sharing

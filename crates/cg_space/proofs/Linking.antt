@@ -1,18 +1,16 @@
 -- Which crossbars stand in which.
-use Rattle.std.proofs.Common.{◌≡◌, ◌↔◌, ℕ, zero, suc, ◌+◌, ◌<◌, ◌≤◌, ◌⊎◌, inl, inr, false, List, [], ◌∷◌, ◌++◌, Option, Some, None, length, get_or, slice_get, refl, sym, ap, ◌∙◌, subst, arith}
+use Rattle.std.proofs.Common.{◌≡◌, ◌↔◌, ℕ, zero, suc, ◌+◌, ◌<◌, ◌≤◌, ◌⊎◌, inl, inr, List, [], ◌∷◌, ◌++◌, Option, Some, None, length, get_or, slice_get, refl, sym, ap, ◌∙◌, subst, arith}
 use Rattle.std.proofs.lemmas.Bool.{cases_lt}
 use Rattle.std.proofs.lemmas.Option.{slice_get_within, slice_get-get_or}
 use Rattle.cg_svspec.specs.Names.{Among}
 use Rattle.cg_svspec.specs.Printable.{AllOf}
 use Rattle.cg_desc.specs.Ends.{CrossbarIs}
-use Rattle.cg_desc.specs.Merged.{design_of, NodeAt, EndAt}
-use Rattle.cg_desc.specs.Reach.{IsInnerHost, Leads, Nests, NoCircle}
-use Rattle.cg_desc.specs.declared.crossbar.NodeDesc.{NodeDesc}
+use Rattle.cg_desc.specs.Merged.{design_of}
+use Rattle.cg_desc.specs.Reach.{Leads, Nests, NoCircle}
 use Rattle.cg_desc.specs.declared.crossbar.XbarDesc.{XbarDesc}
 use Rattle.cg_desc.specs.declared.top.MergedTop.{MergedTop}
-use Rattle.cg_desc.specs.declared.top.NodeEnd.TheVariants.{Xbar}
 use Rattle.cg_space.specs.Inner.Graph.{AllWithin, HasNoLoop, IsLink, IsReached}
-use Rattle.cg_space.specs.Inner.Sound.{HasNode, IsDeviceAt, IsNestedAt, IsSound}
+use Rattle.cg_space.specs.Inner.Sound.{HasNode, IsNestedAt, IsSound}
 use Rattle.cg_space.specs.Inner.Tables.{AreLinks, those}
 use Rattle.cg_space.proofs.Sound.{one_there, xbar_within}
 
@@ -26,8 +24,7 @@ place_there (y ∷ ys) (suc i) less = place_there ys i (omega (arith, less))
 -- of a crossbar that is read
 pub nodes_there : (m : MergedTop) (x n : ℕ) (d : XbarDesc) → x < length m.xbars → (n < length (get_or m.xbars x d).nodes) ↔ HasNode m x n
 nodes_there m x n d h =
-    let is : slice_get m.xbars x ≡ Some (get_or m.xbars x d) = slice_get-get_or m.xbars x d h in
-    (
+    let is : slice_get m.xbars x ≡ Some (get_or m.xbars x d) = slice_get-get_or m.xbars x d h in (
       λ less. let at = place_there (get_or m.xbars x d).nodes n less in (at.0, record { crossbar = get_or m.xbars x d; crossbar_is = is; is = at.1 }),
       λ has. slice_get_within (get_or m.xbars x d).nodes n has.0 (subst (λ (c : XbarDesc). slice_get c.nodes n ≡ Some has.0) (one_there m.xbars x has.1.crossbar (get_or m.xbars x d) has.1.crossbar_is is) has.1.is),
     )

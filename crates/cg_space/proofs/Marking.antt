@@ -79,7 +79,7 @@ grow_marks_by : (marks : List Bool) (from : ℕ) (links : List (List ℕ)) (i k 
 grow_marks_by marks from [] i k within h among = absurd among
 grow_marks_by marks from (to ∷ links) zero k within h among =
     let here : Marked (cond (get_or marks from false) (set_all marks to) marks) k =
-        (let e : get_or marks from false ≡ true = subst (λ (n : ℕ). Marked marks n) (omega arith) h in rw e (set_all_marks marks to k within.0 among)) in
+    (let e : get_or marks from false ≡ true = subst (λ (n : ℕ). Marked marks n) (omega arith) h in rw e (set_all_marks marks to k within.0 among)) in
     grow_keeps (cond (get_or marks from false) (set_all marks to) marks) (suc from) links k here
 grow_marks_by marks from (to ∷ links) (suc i) k within h among =
     let now = cond (get_or marks from false) (set_all marks to) marks in
@@ -196,8 +196,8 @@ closed_by_count links marks e within few x k h leads =
     elim (marked_or_not marks k (get_or marks k false) refl) [
       | inl is ↦ is
       | inr none ↦
-        let more = strictly_within marks (grow marks 0 links) k (sym (grow_length marks 0 links)) (grow_keeps marks 0 links) none (grow_marks marks links x k e within h leads) in
-        absurd (omega (arith, more, few))
+          let more = strictly_within marks (grow marks 0 links) k (sym (grow_length marks 0 links)) (grow_keeps marks 0 links) none (grow_marks marks links x k e within h leads) in
+          absurd (omega (arith, more, few))
     ]
 
 cases_order : (m n : ℕ) → (m < n) ⊎ (n ≤ m)
@@ -309,6 +309,7 @@ ranks_more xs y f new e is all x h = elim (cases_order x (length xs)) [
   get_or-append_left [] bs i d h = absurd (omega arith)
   get_or-append_left (a ∷ us) bs zero d h = refl
   get_or-append_left (a ∷ us) bs (suc i) d h = get_or-append_left us bs i d (omega arith)
+
   get_or_last : (us : List ℕ) (b : ℕ) → get_or (us ++ b ∷ []) (length us) 0 ≡ b
   get_or_last [] b = refl
   get_or_last (a ∷ us) b = get_or_last us b

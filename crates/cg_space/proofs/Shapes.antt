@@ -16,12 +16,12 @@ pub power_is_next : (size p j : ℕ) → 4 ≤ size → IsPowerOfTwo p → size 
 power_is_next size p j h power low high e =
     elim (cases_lt j power.0) [
       | inl more ↦
-        let step : 2 ^ suc j ≤ 2 ^ power.0 = pow_mono more in
-        let double : 2 ^ suc j ≡ 2 ^ j * 2 = pow-suc 2 j in
-        absurd (half_least size p h (omega (arith, step, double, power.1, e)) high)
+          let step : 2 ^ suc j ≤ 2 ^ power.0 = pow_mono more in
+          let double : 2 ^ suc j ≡ 2 ^ j * 2 = pow-suc 2 j in
+          absurd (half_least size p h (omega (arith, step, double, power.1, e)) high)
       | inr most ↦
-        let step : 2 ^ power.0 ≤ 2 ^ j = pow_mono most in
-        omega (arith, step, power.1, e, low)
+          let step : 2 ^ power.0 ≤ 2 ^ j = pow_mono most in
+          omega (arith, step, power.1, e, low)
     ]
 
 -- a power of two that is at least 4
@@ -44,8 +44,8 @@ range_of r p power is some whole within =
       aligned = rw (sym size_is) (turns (div-add-mod' r.base r.size));
       ends = grind (arith, nat_tests);
     } where
-  turns : (r.base / r.size * r.size + r.base % r.size) ≡ r.base → r.base ≡ r.size * (r.base / r.size)
-  turns e = omega (arith, e, whole)
+      turns : (r.base / r.size * r.size + r.base % r.size) ≡ r.base → r.base ≡ r.size * (r.base / r.size)
+      turns e = omega (arith, e, whole)
 
 pub ends_of : (r : Range) → IsRange r → leb (r.base + r.size) 4294967296 ≡ true
 ends_of r range = let h : r.base + r.size ≤ 4294967296 = range.ends in grind (arith, nat_tests)

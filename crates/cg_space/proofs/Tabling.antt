@@ -1,29 +1,27 @@
 -- Tables of what is kept of nodes.
-use Rattle.std.proofs.Common.{◌≡◌, ◌≢◌, ◌↔◌, ℕ, zero, suc, ◌+◌, ◌<◌, ◌≤◌, ◌^◌, Bool, true, false, List, [], ◌∷◌, ◌++◌, Result, Ok, Err, IfOk, IsTrue, ◌⊎◌, inl, inr, Option, Some, None, length, get_or, slice_get, set, drop, refl, sym, ap, ◌∙◌, subst, arith, add-one, drop-cons}
+use Rattle.std.proofs.Common.{◌≡◌, ◌≢◌, ℕ, zero, suc, ◌+◌, ◌<◌, ◌≤◌, ◌^◌, true, false, List, [], ◌∷◌, ◌++◌, Result, Ok, Err, IfOk, ◌⊎◌, inl, inr, Some, length, get_or, slice_get, set, drop, refl, sym, ap, ◌∙◌, subst, arith, add-one, drop-cons}
 use Rattle.std.proofs.lemmas.Bool.{cases_lt, false≢true}
-use Rattle.std.proofs.lemmas.List.{append_assoc, append-nil, drop_all, length-set, get_or-set_same, get_or-set_other}
+use Rattle.std.proofs.lemmas.List.{append_assoc, append-nil, length-set, get_or-set_same, get_or-set_other}
 use Rattle.std.proofs.lemmas.Option.{get_or_from_slice_get, slice_get_within, slice_get-get_or}
 use Rattle.cg_svspec.specs.Printable.{AllOf}
 use Rattle.cg_svspec.specs.Names.{Among}
-use Rattle.cg_desc.specs.Crossbar.{Connects, IsDevice, IsValidCrossbar, IsValidNode, NodeIs}
+use Rattle.cg_desc.specs.Crossbar.{IsDevice, IsValidCrossbar, IsValidNode}
 use Rattle.cg_desc.specs.Ends.{CrossbarIs}
-use Rattle.cg_desc.specs.Merged.{design_of, NodeAt, EndAt, FaceAt}
-use Rattle.cg_desc.specs.Reach.{HasRanges, HaveRanges, IsInnerHost, Nests, interface, outside, nested, nothing, more}
-use Rattle.cg_desc.specs.declared.block.LaidBlock.{LaidBlock}
+use Rattle.cg_desc.specs.Merged.{design_of, BaseIs, EndAt, FaceAt, NodeAt}
+use Rattle.cg_desc.specs.Reach.{HaveRanges, IsInnerHost, Nests, interface, outside, nested, nothing, more}
 use Rattle.cg_desc.specs.declared.block.LaidFace.{LaidFace}
 use Rattle.cg_desc.specs.declared.crossbar.NodeDesc.{NodeDesc}
 use Rattle.cg_desc.specs.declared.crossbar.Range.{Range}
 use Rattle.cg_desc.specs.declared.crossbar.XbarDesc.{XbarDesc}
 use Rattle.cg_desc.specs.declared.top.MergedTop.{MergedTop}
-use Rattle.cg_desc.specs.declared.top.NodeEnd.{NodeEnd}
-use Rattle.cg_desc.specs.declared.top.NodeEnd.TheVariants.{Face, Host, Xbar, Outside}
+use Rattle.cg_desc.specs.declared.top.NodeEnd.TheVariants.{Face, Xbar, Outside}
 use Rattle.cg_space.specs.Inner.Coverages.{IsCoverage}
-use Rattle.cg_space.specs.Inner.Sound.{HasNode, IsDeviceAt, IsHostAt, IsNestedAt, IsSound}
+use Rattle.cg_space.specs.Inner.Sound.{IsDeviceAt, IsSound}
 use Rattle.cg_space.specs.Inner.Tables.{AreKept, AreTables, IsEntry, IsFaceRange, IsKept, IsTable, RanksFall, RightBelow}
 use Rattle.cg_space.specs.declared.coverage.Coverage.{Coverage}
 use Rattle.cg_space.proofs.Looking.{at_among}
 use Rattle.cg_space.proofs.Marking.{differ}
-use Rattle.cg_space.proofs.Sound.{one_end, one_node, one_there, xbar_within}
+use Rattle.cg_space.proofs.Sound.{one_face, one_node}
 
 pub if_ok : {A E : Type 0} {P Q : A → Type 0} (r : Result A E) → IfOk r P → ((a : A) → P a → Q a) → IfOk r Q
 if_ok (Ok a) p f = f a p
@@ -61,6 +59,7 @@ pub to_devices : (m : MergedTop) (y k : ℕ) (host : NodeDesc) → IsSound m →
 to_devices m y k host sound at is_host = all_of (IsDeviceAt m y) host.to (λ d among. device d among) where
   valid : IsValidCrossbar at.crossbar
   valid = all_at IsValidCrossbar m.xbars y at.crossbar sound.crossbars at.crossbar_is
+
   device : (d : ℕ) → Among d host.to → IsDeviceAt m y d
   device d among =
       let found : IsDevice at.crossbar d = valid.devices_only k d (host, at.is, is_host, among) in
@@ -83,13 +82,16 @@ goes_on_more m x all rest d old now new here adds on = record {
   ranges = on.ranges ++ here.0;
   is = adds on.ranges here.0 on.is here.2;
   on = λ ss has.
-    subst (λ (rs : List Range). HaveRanges m x all rs) (sym (append_assoc on.ranges here.0 ss)) (on.on (here.0 ++ ss) (more d here.1 has));
+      subst (λ (rs : List Range). HaveRanges m x all rs) (sym (append_assoc on.ranges here.0 ss)) (on.on (here.0 ++ ss) (more d here.1 has));
 }
 
 pub goes_on_end : (m : MergedTop) (x : ℕ) (all rest : List ℕ) (c : Coverage) → rest ≡ [] → GoesOn m x all rest c → AreKept m x all c
-goes_on_end m x all rest c e on =
-    (on.ranges, subst (λ (rs : List Range). HaveRanges m x all rs) (append-nil on.ranges)
-      (on.on [] (subst (λ (ds : List ℕ). HaveRanges m x ds []) (sym e) nothing)), on.is)
+goes_on_end m x all rest c e on = (
+  on.ranges,
+  subst (λ (rs : List Range). HaveRanges m x all rs) (append-nil on.ranges)
+      (on.on [] (subst (λ (ds : List ℕ). HaveRanges m x ds []) (sym e) nothing)),
+  on.is,
+)
 
 pub device_at : (m : MergedTop) (x : ℕ) (to : List ℕ) (i d : ℕ) → AllOf (IsDeviceAt m x) to → i < length to → IsDeviceAt m x (get_or to i d)
 device_at m x to i d all h = all_at (IsDeviceAt m x) to i (get_or to i d) all (slice_get-get_or to i d h)
@@ -120,12 +122,6 @@ kept_nested m x n y to c stands inner is have =
     (have.0, nested y inner.0 inner.1 stands inner.2 (rw (is inner.0 inner.1 inner.2) at have.1), have.2)
 
 -- sizes of ranges are small enough
-one_face : (m : MergedTop) (i f : ℕ) (a b : LaidFace) → FaceAt m i f a → FaceAt m i f b → a ≡ b
-one_face m i f a b p q =
-    let kind : p.1.0 ≡ q.1.0 = one_there m.kinds i p.1.0 q.1.0 p.1.1 q.1.1 in
-    let block : p.0 ≡ q.0 = one_there m.blocks q.1.0 p.0 q.0 (subst (λ k. slice_get m.blocks k ≡ Some p.0) kind p.1.2) q.1.2 in
-    one_there q.0.faces f a b (subst (λ (l : LaidBlock). slice_get l.faces f ≡ Some a) block p.2) q.2
-
 pub face_fits : (m : MergedTop) (x n i f : ℕ) (range : Range) → IsSound m → EndAt m x n (Face i f) → IsFaceRange m i f range → range.size ≤ 2 ^ 32
 face_fits m x n i f range sound stands is =
     let known = sound.faces x n i f stands in
@@ -167,8 +163,8 @@ entries_more m x n old new c entry is below = record {
   each = λ k d at. elim (at_end old c d k (rw is at at)) [
     | inl l ↦ below.each k d l
     | inr r ↦
-      let here : k ≡ n = r.0 ∙ below.count in
-      subst (λ i. IsEntry m x i d) (sym here) (subst (λ (e : Coverage). IsEntry m x n e) (sym r.1) entry)
+        let here : k ≡ n = r.0 ∙ below.count in
+        subst (λ i. IsEntry m x i d) (sym here) (subst (λ (e : Coverage). IsEntry m x n e) (sym r.1) entry)
   ];
 }
 
@@ -237,3 +233,10 @@ right_start m ranks tables x there (inr equal) = absurd (omega (arith, equal.1))
 pub all_right : (m : MergedTop) (ranks : List ℕ) (tables : List (List Coverage)) (r : ℕ) → length tables ≡ length m.xbars → ((x : ℕ) → get_or ranks x 0 < r)
     → RightBelow m ranks tables r 0 → AreTables m tables
 all_right m ranks tables r all high below = record { count = all; each = λ x there. below x there (inl (high x)) }
+
+-- ---- the range of an interface
+
+pub face_range_is : (m : MergedTop) (i f base size : ℕ) (face : LaidFace) → FaceAt m i f face → BaseIs m i f base → size ≡ face.size
+    → IsFaceRange m i f (record { base = base; size = size })
+face_range_is m i f base size face face_is base_is e =
+    record { face = face; face_is = face_is; base = base; base_is = base_is; is = ap (λ s. record { base = base; size = s }) e }

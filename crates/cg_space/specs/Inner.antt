@@ -4,3 +4,4 @@ pub mod Regions
 pub mod Coverages
 pub mod Sound
 pub mod Tables
+pub mod Verdicts

@@ -71,7 +71,7 @@ impl Coverage {
     }
 
     /// What is kept of a range.
-    fn one(alloc: Global, range: Range) -> Result<Coverage, Memory>
+    pub fn one(alloc: Global, range: Range) -> Result<Coverage, Memory>
         requires { range.size ≤ 2 ^ 32 }
         ensures { IfOk result (λ coverage. IsCoverage (range ∷ []) coverage) }
     {

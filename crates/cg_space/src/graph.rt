@@ -3,7 +3,7 @@
 ghost use Rattle.std.specs.Prelude.{◌≡◌, ◌↔◌, ◌<◌, ℕ, [], true, false, get_or, length, map, IfOk};
 ghost use Rattle.cg_svspec.specs.Printable.{AllOf};
 ghost use Rattle.cg_space.specs.Inner.Graph.{AllWithin};
-ghost use Rattle.cg_space.specs.Inner.Marks.{count, grow, marks_of, set_all};
+ghost use Rattle.cg_space.specs.Inner.Marks.{AreMarks, count, grow, marks_of, set_all};
 
 use cg_base::{List, Memory};
 use std::alloc::Global;
@@ -48,8 +48,7 @@ fn reached(alloc: Global, links: &[List<u32>], from: usize) -> Result<List<bool>
 /// Marks which numbers are reached, from each.
 pub fn all_reached(alloc: Global, links: &[List<u32>]) -> Result<List<List<bool>>, Memory>
     requires within { AllWithin links.now }
-    ensures all { IfOk result (λ marks. length marks ≡ length links.now) }
-    ensures each { IfOk result (λ marks. (x : ℕ) → x < length links.now → get_or marks x [] ≡ marks_of links.now x) }
+    ensures { IfOk result (AreMarks links.now) }
 {
     let mut all = List::new(alloc);
     for number in 0..links.len() {

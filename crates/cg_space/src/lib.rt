@@ -22,6 +22,9 @@ mod region;
 mod row;
 mod shared;
 mod table;
+mod told;
+mod verdict;
+mod verdicts;
 
 pub use checked::check;
 pub use lookup::find;

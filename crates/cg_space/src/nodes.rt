@@ -1,12 +1,14 @@
-//! The nodes of a merged top, and what they stand for.
+//! The nodes of a merged top, what they stand for, and the interfaces of its instances.
 
 ghost use Rattle.std.specs.Prelude.{◌≡◌, ◌↔◌, ◌<◌, ℕ, Some, length};
 ghost use Rattle.cg_desc.specs.Ends.{CrossbarIs};
-ghost use Rattle.cg_desc.specs.Merged.{design_of, NodeAt, EndAt};
+ghost use Rattle.cg_desc.specs.Merged.{design_of, BlockAt, EndAt, FaceAt, NodeAt};
+ghost use Rattle.cg_desc.specs.declared.block.LaidBlock.{LaidBlock as ABlock};
+ghost use Rattle.cg_desc.specs.declared.block.LaidFace.{LaidFace as AFace};
 ghost use Rattle.cg_desc.specs.declared.crossbar.XbarDesc.{XbarDesc as Crossbar};
 ghost use Rattle.cg_space.specs.Inner.Sound.{HasNode, IsNestedAt, IsSound};
 
-use cg_desc::{MergedTop, NodeDesc, NodeEnd};
+use cg_desc::{LaidBlock, LaidFace, MergedTop, NodeDesc, NodeEnd};
 
 /// How many nodes the crossbar has.
 pub fn node_count(top: &MergedTop, xbar: usize) -> usize
@@ -47,4 +49,20 @@ pub fn nested_in(top: &MergedTop, xbar: usize, node: usize) -> Option<u32>
         NodeEnd::Xbar { xbar } => Some(xbar),
         NodeEnd::Face { .. } | NodeEnd::Host { .. } | NodeEnd::Outside => None,
     }
+}
+
+/// The block of an instance.
+fn block_at(top: &MergedTop, inst: u32) -> &LaidBlock
+    requires { (block : ABlock) × BlockAt top.now inst block }
+    ensures { BlockAt top.now inst result.now }
+{
+    &top.blocks.as_slice()[top.kinds.as_slice()[inst as usize] as usize]
+}
+
+/// A device interface of an instance.
+pub fn face_at(top: &MergedTop, inst: u32, face: u32) -> &LaidFace
+    requires { (laid : AFace) × FaceAt top.now inst face laid }
+    ensures { FaceAt top.now inst face result.now }
+{
+    &block_at(top, inst).faces.as_slice()[face as usize]
 }

@@ -4,6 +4,7 @@ ghost use Rattle.std.specs.Prelude.{◌<◌, ◌≤◌, ◌^◌, length, IfOk};
 ghost use Rattle.cg_svspec.specs.Printable.{AllOf};
 ghost use Rattle.cg_space.specs.Shared.{IsFirstShared};
 
+use crate::coverage::Coverage;
 use cg_base::Memory;
 use cg_desc::Range;
 use std::alloc::Global;
@@ -15,5 +16,12 @@ pub fn first_shared(alloc: Global, ranges: &[Range]) -> Result<Option<u32>, Memo
     requires sizes { AllOf (λ r. r.size ≤ 2 ^ 32) ranges.now }
     ensures { IfOk result (IsFirstShared ranges.now) }
 {
-    Err(Memory)
+    let mut coverage = Coverage::new(alloc);
+    for (place, range) in ranges.iter().enumerate() {
+        coverage.add(alloc, &Coverage::one(alloc, *range)?)?;
+        if coverage.is_shared {
+            return Ok(Some(place as u32));
+        }
+    }
+    Ok(None)
 }

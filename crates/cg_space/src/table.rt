@@ -11,18 +11,21 @@ ghost use Rattle.cg_space.specs.Inner.Sound.{HasNode, IsDeviceAt, IsSound};
 ghost use Rattle.cg_space.specs.Inner.Tables.{AreKept, AreTables, IsEntry, IsFaceRange, IsKept, IsTable, RanksFall, RightBelow};
 
 use crate::coverage::Coverage;
-use crate::nodes::{end_at, node_at, node_count};
+use crate::nodes::{end_at, face_at, node_at, node_count};
 use cg_base::{List, Memory};
 use cg_desc::{MergedTop, NodeEnd, Range};
 use std::alloc::Global;
 
 /// The range of a device interface of an instance.
-fn face_range(top: &MergedTop, inst: u32, face: u32) -> Result<Range, Memory>
+fn face_range(top: &MergedTop, inst: u32, face: u32) -> Range
     requires merged { IsMerged top.now }
     requires there { (laid : AFace) × FaceAt top.now inst face laid }
-    ensures { IfOk result (IsFaceRange top.now inst face) }
+    ensures { IsFaceRange top.now inst face result }
 {
-    Err(Memory)
+    Range {
+        base: top.base(inst, face),
+        size: u64::from(face_at(top, inst, face).size),
+    }
 }
 
 /// Whether a node is a host that stands for the crossbar `outer`.
@@ -55,7 +58,13 @@ fn inner_to(top: &MergedTop, xbar: usize, outer: u32) -> &[u32]
 }
 
 /// What is kept of the ranges of these devices of a crossbar, one after the other.
-fn coverage_of_all(alloc: Global, top: &MergedTop, xbar: usize, to: &[u32], table: &[Coverage]) -> Result<Coverage, Memory>
+fn coverage_of_all(
+    alloc: Global,
+    top: &MergedTop,
+    xbar: usize,
+    to: &[u32],
+    table: &[Coverage],
+) -> Result<Coverage, Memory>
     requires table { IsTable top.now xbar table.now }
     requires devices { AllOf (IsDeviceAt top.now xbar) to.now }
     ensures { IfOk result (AreKept top.now xbar to.now) }
@@ -68,7 +77,13 @@ fn coverage_of_all(alloc: Global, top: &MergedTop, xbar: usize, to: &[u32], tabl
 }
 
 /// What is kept of the ranges of a device, by the tables of the crossbars that it may stand for.
-fn coverage_of(alloc: Global, top: &MergedTop, xbar: usize, node: usize, tables: &[List<Coverage>]) -> Result<Coverage, Memory>
+fn coverage_of(
+    alloc: Global,
+    top: &MergedTop,
+    xbar: usize,
+    node: usize,
+    tables: &[List<Coverage>],
+) -> Result<Coverage, Memory>
     requires sound { IsSound top.now }
     requires device { IsDeviceAt top.now xbar node }
     requires all { length tables.now ≡ length top.now.xbars }
@@ -76,7 +91,7 @@ fn coverage_of(alloc: Global, top: &MergedTop, xbar: usize, node: usize, tables:
     ensures { IfOk result (IsKept top.now xbar node) }
 {
     match end_at(top, xbar, node) {
-        NodeEnd::Face { inst, face } => Coverage::of(alloc, &[face_range(top, inst, face)?]),
+        NodeEnd::Face { inst, face } => Coverage::of(alloc, &[face_range(top, inst, face)]),
         NodeEnd::Xbar { xbar: inner } => {
             let inner = inner as usize;
             let to = inner_to(top, inner, xbar as u32);
@@ -88,7 +103,13 @@ fn coverage_of(alloc: Global, top: &MergedTop, xbar: usize, node: usize, tables:
 }
 
 /// What is kept of a node, of a host nothing.
-fn entry_of(alloc: Global, top: &MergedTop, xbar: usize, node: usize, tables: &[List<Coverage>]) -> Result<Coverage, Memory>
+fn entry_of(
+    alloc: Global,
+    top: &MergedTop,
+    xbar: usize,
+    node: usize,
+    tables: &[List<Coverage>],
+) -> Result<Coverage, Memory>
     requires sound { IsSound top.now }
     requires there { HasNode top.now xbar node }
     requires all { length tables.now ≡ length top.now.xbars }
@@ -102,7 +123,12 @@ fn entry_of(alloc: Global, top: &MergedTop, xbar: usize, node: usize, tables: &[
 }
 
 /// What is kept of the nodes of a crossbar, by the tables of the crossbars below it.
-fn table_of(alloc: Global, top: &MergedTop, xbar: usize, tables: &[List<Coverage>]) -> Result<List<Coverage>, Memory>
+fn table_of(
+    alloc: Global,
+    top: &MergedTop,
+    xbar: usize,
+    tables: &[List<Coverage>],
+) -> Result<List<Coverage>, Memory>
     requires sound { IsSound top.now }
     requires there { xbar < length top.now.xbars }
     requires all { length tables.now ≡ length top.now.xbars }
@@ -128,7 +154,13 @@ fn empty_tables(alloc: Global, count: usize) -> Result<Vec<List<Coverage>>, Memo
 }
 
 /// Makes the tables of the crossbars of one rank.
-fn add_rank(alloc: Global, top: &MergedTop, ranks: &[usize], rank: usize, tables: &mut [List<Coverage>]) -> Result<(), Memory>
+fn add_rank(
+    alloc: Global,
+    top: &MergedTop,
+    ranks: &[usize],
+    rank: usize,
+    tables: &mut [List<Coverage>],
+) -> Result<(), Memory>
     requires sound { IsSound top.now }
     requires ranked { length ranks.now ≡ length top.now.xbars }
     requires fall { RanksFall top.now ranks.now }
@@ -146,7 +178,11 @@ fn add_rank(alloc: Global, top: &MergedTop, ranks: &[usize], rank: usize, tables
 }
 
 /// The table of each crossbar, those of lower ranks first.
-pub fn tables(alloc: Global, top: &MergedTop, ranks: &[usize]) -> Result<List<List<Coverage>>, Memory>
+pub fn tables(
+    alloc: Global,
+    top: &MergedTop,
+    ranks: &[usize],
+) -> Result<List<List<Coverage>>, Memory>
     requires sound { IsSound top.now }
     requires ranked { length ranks.now ≡ length top.now.xbars }
     requires within { (x : ℕ) → get_or ranks.now x 0 ≤ length top.now.xbars }

@@ -1,5 +1,6 @@
 -- What is kept of a list of ranges, in place of the list.
 use Rattle.std.specs.Prelude.{ℕ, ◌≡◌, ◌⊎◌, ◌↔◌, true, false, List, [], ◌∷◌}
+use Rattle.cg_svspec.specs.Printable.{AllOf}
 use Rattle.cg_desc.specs.Ranges.{RangeHolds, IsRange}
 use Rattle.cg_desc.specs.declared.crossbar.Range.{Range}
 use Rattle.cg_space.specs.Inner.Regions.{Covers, IsRegion}
@@ -32,5 +33,6 @@ pub record IsCoverage (rs : List Range) (c : Coverage) : Type 0 where
   pub covers : (a : ℕ) → Covers c.cells a ↔ HaveAddress rs a
   pub empty : (c.is_empty ≡ true) ↔ (rs ≡ [])
   pub bad : (c.is_bad ≡ true) ↔ HasBad rs
+  pub good : c.is_bad ≡ false → AllOf IsRange rs
   pub shared : (c.is_shared ≡ true) ↔ MeetWithin rs
   pub listed : c.is_bad ≡ false → c.is_shared ≡ false → c.ranges ≡ rs

@@ -1,10 +1,11 @@
 -- Tables of what is kept of the ranges of a crossbar's nodes.
-use Rattle.std.specs.Prelude.{ℕ, ◌≡◌, ◌<◌, ◌≤◌, ◌⊎◌, ◌↔◌, List, [], ◌∷◌, length, get_or, slice_get, Option, Some, None}
+use Rattle.std.specs.Prelude.{ℕ, ◌≡◌, ◌<◌, ◌⊎◌, ◌↔◌, List, [], ◌∷◌, length, map, get_or, slice_get, Option, Some, None}
 use Rattle.cg_desc.specs.Ends.{CrossbarIs}
 use Rattle.cg_desc.specs.Merged.{design_of, FaceAt, BaseIs}
 use Rattle.cg_desc.specs.Reach.{HasRanges, HaveRanges, Nests}
 use Rattle.cg_desc.specs.declared.block.LaidFace.{LaidFace}
 use Rattle.cg_desc.specs.declared.crossbar.Range.{Range}
+use Rattle.cg_desc.specs.declared.crossbar.NodeRanges.{NodeRanges}
 use Rattle.cg_desc.specs.declared.crossbar.XbarDesc.{XbarDesc}
 use Rattle.cg_desc.specs.declared.top.MergedTop.{MergedTop}
 use Rattle.cg_space.specs.Inner.Coverages.{IsCoverage}
@@ -61,3 +62,7 @@ RightBelow m ranks tables r number =
 pub record AreTables (m : MergedTop) (tables : List (List Coverage)) : Type 0 where
   pub count : length tables ≡ length m.xbars
   pub each : (x : ℕ) → x < length m.xbars → IsTable m x (get_or tables x [])
+
+-- the ranges that are kept of each node
+abbrev pub entries_of : List Coverage → List NodeRanges
+entries_of table = map (λ c. record { ranges = c.ranges }) table

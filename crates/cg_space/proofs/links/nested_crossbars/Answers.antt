@@ -1,5 +1,5 @@
 use Rattle.std.proofs.Common.{◌≡◌, arith}
-use Rattle.cg_space.proofs.Linking.{nests_all, nests_more, nests_start}
+use Rattle.cg_space.proofs.Linking.{nests_all, nests_more}
 use Rattle.cg_space.proofs.links.nested_crossbars.Goals as goal
 
 pub nested_in-requires-clause-there : goal.nested_in-requires-clause-there

@@ -14,7 +14,7 @@ loop-xbar-preserved c = elim c.if-ranks-xbar.branch [
   | then-ranks-xbar+in_ok-tables w ↦ record {
     all = rw w.tables-is (set_length c.loop-xbar.tables c.loop-xbar.xbar w.in_ok-tables.field-0 (length c.args.top.now.xbars) c.loop-xbar.invariant.all);
     below = rw w.tables-is (table_put c.args.top.now c.args.ranks.now c.loop-xbar.tables c.args.rank c.loop-xbar.xbar w.in_ok-tables.field-0
-      c.loop-xbar.invariant.all w.in_ok-tables.ensures c.loop-xbar.invariant.below);
+        c.loop-xbar.invariant.all w.in_ok-tables.ensures c.loop-xbar.invariant.below);
   }
   | else-ranks-xbar w ↦ record {
     all = rw w.tables-is c.loop-xbar.invariant.all;

@@ -1,4 +1,4 @@
-use Rattle.std.proofs.Common.{◌≡◌, sym, List, length, get_or, drop}
+use Rattle.std.proofs.Common.{sym}
 use Rattle.std.proofs.lemmas.List.{drop_all}
 use Rattle.cg_space.proofs.Tabling.{cut_at, device_at, goes_on_end, goes_on_more, kept_read}
 use Rattle.cg_space.proofs.table.coverage_of_all.Goals as goal
