@@ -1,3 +1,4 @@
 pub mod Violations
 pub mod Merges
 pub mod Checks
+pub mod Nodes

@@ -6,6 +6,8 @@
 //! nest in a circle, which other layers judge.
 #![tactic(auto)]
 
+mod instances;
 mod one;
+mod top_rules;
 
 pub use one::merge_one;
