@@ -1,3 +1,4 @@
 mod Walks
 mod TopRules
 mod InstanceRules
+mod Repeats

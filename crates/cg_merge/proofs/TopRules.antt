@@ -36,14 +36,14 @@ decides_either false b d e = (λ is. inr (e.0 is), λ either. elim either [ inl 
 -- ---- the first n items
 
 -- what is before n
-before_is : {X : Type 0} (xs : List X) (n i : ℕ) (x : X) → slice_get (take n xs) i ≡ Some x → (i < n) × (slice_get xs i ≡ Some x)
+pub before_is : {X : Type 0} (xs : List X) (n i : ℕ) (x : X) → slice_get (take n xs) i ≡ Some x → (i < n) × (slice_get xs i ≡ Some x)
 before_is [] zero i x is = cc
 before_is [] (suc n) i x is = cc
 before_is (y ∷ xs) zero i x is = cc
 before_is (y ∷ xs) (suc n) zero x is = (omega arith, is)
 before_is (y ∷ xs) (suc n) (suc i) x is = let there = before_is xs n i x is in let less = there.0 in (omega arith, there.1)
 
-is_before : {X : Type 0} (xs : List X) (n i : ℕ) (x : X) → i < n → slice_get xs i ≡ Some x → slice_get (take n xs) i ≡ Some x
+pub is_before : {X : Type 0} (xs : List X) (n i : ℕ) (x : X) → i < n → slice_get xs i ≡ Some x → slice_get (take n xs) i ≡ Some x
 is_before [] n i x less is = cc
 is_before (y ∷ xs) zero i x less is = absurd (omega arith)
 is_before (y ∷ xs) (suc n) zero x less is = is

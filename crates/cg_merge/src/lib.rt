@@ -6,7 +6,9 @@
 //! nest in a circle, which other layers judge.
 #![tactic(auto)]
 
+mod ends;
 mod instances;
+mod interfaces;
 mod one;
 mod top_rules;
 
