@@ -2,3 +2,5 @@ mod Walks
 mod TopRules
 mod InstanceRules
 mod Repeats
+mod Partners
+mod Spellings

@@ -36,7 +36,7 @@ pub decides_as : {P Q : Type 0} (b : Bool) → Decides b P → (P → Q) → (Q 
 decides_as b d to from = (λ is. to (d.0 is), λ q. d.1 (from q))
 
 -- one direction
-decides_direction : (host b : Bool) → Decides (agrees host b) (b ≡ host)
+pub decides_direction : (host b : Bool) → Decides (agrees host b) (b ≡ host)
 decides_direction true b = (λ is. is, λ is. is)
 decides_direction false true = (λ is. absurd (false≢true is), λ is. absurd (false≢true (sym is)))
 decides_direction false false = (λ is. refl, λ is. refl)
@@ -204,3 +204,33 @@ none_more P n before here i less p = by (cases_lt i n) where
   by : (i < n) ⊎ (n ≤ i) → ⊥
   by (inl below) = before i below p
   by (inr above) = let e : i ≡ n = omega arith in here (subst P e p)
+
+-- ---- interfaces that are named
+
+pub decides_named : (m : MergedTop) → AreRead m → (host : Bool) (i : ℕ) (node : NodeDesc) (inst : InstDesc) (block : LaidBlock) → IsOf (design_of m) i inst block → {X : Type 0} (v : X → Option (List ℕ)) (xs : List X)
+    → map v xs ≡ interface_names host block → Decides (list_any (λ face. is_node_for host inst.name (eqb (length xs) 1) (v face) node) xs) ((f : ℕ) × Names (design_of m) host node i f)
+decides_named m read host i node inst block of {X} v xs names = (there, back) where
+  count : length (interface_names host block) ≡ length xs
+  count = ap length (sym names) ∙ length-map xs v
+
+  one : (f : ℕ) (face : X) → slice_get xs f ≡ Some face → Decides (is_node_for host inst.name (eqb (length xs) 1) (v face) node) (Names (design_of m) host node i f)
+  one f face is =
+      subst (λ c. Decides (is_node_for host inst.name (eqb c 1) (v face) node) (Names (design_of m) host node i f)) count
+      (decides_names (design_of m) read.files host i f inst block (v face) of (subst (λ (ns : List (Option (List ℕ))). slice_get ns f ≡ Some (v face)) names (image_at v xs f face is)) node)
+
+  there : list_any (λ face. is_node_for host inst.name (eqb (length xs) 1) (v face) node) xs ≡ true → (f : ℕ) × Names (design_of m) host node i f
+  there is = let passed = one_passes (λ face. is_node_for host inst.name (eqb (length xs) 1) (v face) node) xs is in (passed.0, (one passed.0 passed.1 passed.2).0 passed.3)
+
+  back : (f : ℕ) × Names (design_of m) host node i f → list_any (λ face. is_node_for host inst.name (eqb (length xs) 1) (v face) node) xs ≡ true
+  back (f, named) =
+      let same = (one_of (design_of m) read.files i named.inst inst named.block block named.is of).1 in
+      let inside = meant_at named.inst.name node.name (interface_names host named.block) f named.means in
+      let here = subst (λ (ns : List (Option (List ℕ))). slice_get ns f ≡ Some inside.0) (sym names) (subst (λ (b : LaidBlock). slice_get (interface_names host b) f ≡ Some inside.0) same inside.1) in
+      let face = image_of v xs f inside.0 here in
+      passes_one (λ face. is_node_for host inst.name (eqb (length xs) 1) (v face) node) xs f face.0 face.1 ((one f face.0 face.1).1 named)
+
+pub named_none : (m : MergedTop) → AreRead m → (host : Bool) (i : ℕ) (node : NodeDesc) → block_of m i ≡ None → Decides false ((f : ℕ) × Names (design_of m) host node i f)
+named_none m read host i node none = (
+  λ is. absurd (false≢true is),
+  λ r. let e : Some r.1.block ≡ None = sym (block_there m read.files read.kinds i r.1.inst r.1.block r.1.is) ∙ none in cc,
+)

@@ -2,3 +2,4 @@ pub mod Violations
 pub mod Merges
 pub mod Checks
 pub mod Nodes
+pub mod Spelling

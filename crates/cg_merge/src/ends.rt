@@ -1,6 +1,6 @@
 //! What the nodes of a top's crossbars stand for.
 
-ghost use Rattle.std.specs.Prelude.{◌≡◌, eqb, false, true, length, position};
+ghost use Rattle.std.specs.Prelude.{◌≡◌, ◌&&◌, not, eqb, false, true, length, position};
 ghost use Rattle.std.specs.List.{list_any};
 ghost use Rattle.std.specs.Str.{bytes_eq};
 ghost use Rattle.cg_desc.specs.Ends.{CrossbarIs, InstanceIs, StandsFor};
@@ -9,7 +9,7 @@ ghost use Rattle.cg_merge.specs.Checks.{AreRead};
 ghost use Rattle.cg_merge.specs.Nodes.{EndsIn, agrees, is_node_for, is_partner, joins};
 
 use crate::interfaces::{agrees, is_node_for};
-use cg_desc::{InstDesc, LaidBlock, MergedTop, NodeDesc, NodeEnd, XbarDesc};
+use cg_desc::{InstDesc, LaidBlock, MergedTop, NodeDesc, NodeEnd, XbarDesc, XbarUse};
 
 /// The number of the first device interface of an instance of a block that a node names.
 fn face_of(inst: &InstDesc, block: &LaidBlock, node: &NodeDesc) -> Option<usize>
@@ -74,4 +74,20 @@ fn joined(xbars: &[XbarDesc], outer: &str, node: &NodeDesc) -> Option<usize>
     ensures { result ≡ position (joins outer.now node.now) xbars.now }
 {
     xbars.iter().position(|inner| joins(outer, node, inner))
+}
+
+/// Whether a node in the crossbar of this name joins one.
+pub(crate) fn joins_one(xbars: &[XbarDesc], outer: &str, node: &NodeDesc) -> bool
+    ensures { result ≡ list_any (joins outer.now node.now) xbars.now }
+{
+    xbars.iter().any(|inner| joins(outer, node, inner))
+}
+
+/// Whether one of the listed crossbars has this name, and is of another space.
+pub(crate) fn is_elsewhere(xbars: &[XbarUse], name: &str, space: &str) -> bool
+    ensures { result ≡ list_any (λ u. bytes_eq u.name name.now && not (bytes_eq u.space space.now)) xbars.now }
+{
+    xbars
+        .iter()
+        .any(|xbar| xbar.name.as_str() == name && xbar.space.as_str() != space)
 }

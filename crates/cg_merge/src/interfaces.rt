@@ -6,7 +6,7 @@ ghost use Rattle.std.specs.List.{list_any};
 ghost use Rattle.cg_desc.specs.Ends.{InstanceIs};
 ghost use Rattle.cg_desc.specs.Merged.{design_of};
 ghost use Rattle.cg_merge.specs.Checks.{AreRead};
-ghost use Rattle.cg_merge.specs.Nodes.{IsBefore, Repeats, RepeatsIn, agrees, is_node_for, one_before, repeats};
+ghost use Rattle.cg_merge.specs.Nodes.{IsBefore, Names, Repeats, RepeatsIn, agrees, is_node_for, one_before, repeats};
 
 use cg_base::Text;
 use cg_desc::{InstDesc, LaidBlock, MergedTop, NodeDesc, XbarDesc, is_meant};
@@ -118,6 +118,44 @@ pub(crate) fn repeats_one(top: &MergedTop, before: &Before, node: &NodeDesc) -> 
 {
     for (number, inst) in top.top.insts.as_slice().iter().enumerate() {
         if repeats_in(top, number as u32, inst, before, node) {
+            return true;
+        }
+    }
+    false
+}
+
+/// Whether a node names a device interface of an instance of a block.
+fn means_face(inst: &InstDesc, block: &LaidBlock, node: &NodeDesc) -> bool
+    ensures { result ≡ list_any (λ face. is_node_for false inst.now.name (eqb (length block.now.faces) 1) face.name node.now) block.now.faces }
+{
+    let instance = inst.name.as_str();
+    let is_sole = block.faces.len() == 1;
+    block
+        .faces
+        .as_slice()
+        .iter()
+        .any(|face| is_node_for(false, instance, is_sole, &face.name, node))
+}
+
+/// Whether a node names a device interface of an instance.
+fn names_in(top: &MergedTop, number: u32, inst: &InstDesc, node: &NodeDesc) -> bool
+    requires read { AreRead top.now }
+    requires there { InstanceIs (design_of top.now) number inst.now }
+    ensures { Decides result ((f : ℕ) × Names (design_of top.now) false node.now number f) }
+{
+    match top.block_of(number) {
+        Some(block) => means_face(inst, block, node),
+        None => false,
+    }
+}
+
+/// Whether a node names a device interface.
+pub(crate) fn names_face(top: &MergedTop, node: &NodeDesc) -> bool
+    requires { AreRead top.now }
+    ensures { Decides result ((i : ℕ) × ((f : ℕ) × Names (design_of top.now) false node.now i f)) }
+{
+    for (number, inst) in top.top.insts.as_slice().iter().enumerate() {
+        if names_in(top, number as u32, inst, node) {
             return true;
         }
     }

@@ -10,6 +10,7 @@ mod ends;
 mod instances;
 mod interfaces;
 mod one;
+mod spelling;
 mod top_rules;
 
 pub use one::merge_one;
