@@ -85,8 +85,8 @@ lacks m read i inst block b there own d =
     let of = block_is m read.files read.kinds i inst block there own in (
       λ is. let one = d.0 is in record { face = one.0; block = block; is = of; within = one.1; none = one.2 },
       λ has.
-        let same = (one_of (design_of m) read.files i inst inst has.block block has.is of).1 in
-        d.1 (has.face, subst (λ (k : LaidBlock). has.face < length k.faces) same has.within, has.none),
+          let same = (one_of (design_of m) read.files i inst inst has.block block has.is of).1 in
+          d.1 (has.face, subst (λ (k : LaidBlock). has.face < length k.faces) same has.within, has.none),
     )
 
 -- and none where there is no block

@@ -4,3 +4,4 @@ mod InstanceRules
 mod Repeats
 mod Partners
 mod Spellings
+mod NodeRules

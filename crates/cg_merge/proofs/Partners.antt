@@ -34,38 +34,38 @@ module _ (d : Design) (x : ℕ) (node : NodeDesc) (outer : XbarDesc) (is : Cross
   unfolding joins
   decides_joins y inner there =
       decides_as _ (decides_both _ _ (bytes_eq-Decides node.name inner.name) (decides_any (is_partner outer.name node) inner.nodes (decides_partner outer.name node))) to from where
-    to : (node.name ≡ inner.name) × ((k : ℕ) × (p : NodeDesc) × (slice_get inner.nodes k ≡ Some p) × IsPartner outer.name node p) → Joins d x node y
-    to (named, (k, p, at, (facing, (host, name)))) = record {
-      nested = nested;
-      outer = outer;
-      outer_is = is;
-      inner = inner;
-      inner_is = there;
-      names = named;
-      partner = p;
-      partner_there = item_among inner.nodes k p at;
-      partner_nested = facing;
-      partner_faces = host;
-      partner_names = name;
-    }
+        to : (node.name ≡ inner.name) × ((k : ℕ) × (p : NodeDesc) × (slice_get inner.nodes k ≡ Some p) × IsPartner outer.name node p) → Joins d x node y
+        to (named, (k, p, at, (facing, (host, name)))) = record {
+          nested = nested;
+          outer = outer;
+          outer_is = is;
+          inner = inner;
+          inner_is = there;
+          names = named;
+          partner = p;
+          partner_there = item_among inner.nodes k p at;
+          partner_nested = facing;
+          partner_faces = host;
+          partner_names = name;
+        }
 
-    from : Joins d x node y → (node.name ≡ inner.name) × ((k : ℕ) × (p : NodeDesc) × (slice_get inner.nodes k ≡ Some p) × IsPartner outer.name node p)
-    from j =
-        let in_same : j.inner ≡ inner = same_item d.xbars y j.inner inner j.inner_is there in
-        let out_same : j.outer ≡ outer = same_item d.xbars x j.outer outer j.outer_is is in
-        let among = subst (λ (b : XbarDesc). Among j.partner b.nodes) in_same j.partner_there in
-        let at = item_number inner.nodes j.partner among in
-        (j.names ∙ ap (λ (b : XbarDesc). b.name) in_same, (at.0, j.partner, at.1, (j.partner_nested, (j.partner_faces, j.partner_names ∙ ap (λ (b : XbarDesc). b.name) out_same))))
+        from : Joins d x node y → (node.name ≡ inner.name) × ((k : ℕ) × (p : NodeDesc) × (slice_get inner.nodes k ≡ Some p) × IsPartner outer.name node p)
+        from j =
+            let in_same : j.inner ≡ inner = same_item d.xbars y j.inner inner j.inner_is there in
+            let out_same : j.outer ≡ outer = same_item d.xbars x j.outer outer j.outer_is is in
+            let among = subst (λ (b : XbarDesc). Among j.partner b.nodes) in_same j.partner_there in
+            let at = item_number inner.nodes j.partner among in
+            (j.names ∙ ap (λ (b : XbarDesc). b.name) in_same, (at.0, j.partner, at.1, (j.partner_nested, (j.partner_faces, j.partner_names ∙ ap (λ (b : XbarDesc). b.name) out_same))))
 
   -- the node joins none where none passes
   pub decides_alone : Decides (not (list_any (joins outer.name node) d.xbars)) ((y : ℕ) → Joins d x node y → ⊥)
   decides_alone =
       decides_as _ (decides_not (list_any (joins outer.name node) d.xbars) here) (λ none y j. none (y, j)) (λ none one. none one.0 one.1) where
-    here : Decides (list_any (joins outer.name node) d.xbars) ((y : ℕ) × Joins d x node y)
-    here = (
-      λ passes. let one = one_passes (joins outer.name node) d.xbars passes in (one.0, (decides_joins one.0 one.1 one.2).0 one.3),
-      λ joined. passes_one (joins outer.name node) d.xbars joined.0 joined.1.inner joined.1.inner_is ((decides_joins joined.0 joined.1.inner joined.1.inner_is).1 joined.1),
-    )
+        here : Decides (list_any (joins outer.name node) d.xbars) ((y : ℕ) × Joins d x node y)
+        here = (
+          λ passes. let one = one_passes (joins outer.name node) d.xbars passes in (one.0, (decides_joins one.0 one.1 one.2).0 one.3),
+          λ joined. passes_one (joins outer.name node) d.xbars joined.0 joined.1.inner joined.1.inner_is ((decides_joins joined.0 joined.1.inner joined.1.inner_is).1 joined.1),
+        )
 
 -- ---- another space
 
@@ -76,20 +76,20 @@ decides_elsewhere d x node outer is device nested =
     decides_as _
     (decides_any (λ (u : XbarUse). bytes_eq u.name node.name && not (bytes_eq u.space outer.space)) d.top.xbars
     (λ (u : XbarUse). decides_both _ _ (bytes_eq-Decides u.name node.name) (decides_not _ (bytes_eq-Decides u.space outer.space)))) to from where
-  to : (k : ℕ) × (u : XbarUse) × (slice_get d.top.xbars k ≡ Some u) × ((u.name ≡ node.name) × (¬ (u.space ≡ outer.space))) → IsElsewhere d x node
-  to (k, u, at, (named, differ)) = record {
-    outer = outer;
-    inner = u;
-    device = device;
-    nested = nested;
-    listed = is;
-    among = item_among d.top.xbars k u at;
-    named = named;
-    differ = λ e. differ (sym e);
-  }
+      to : (k : ℕ) × (u : XbarUse) × (slice_get d.top.xbars k ≡ Some u) × ((u.name ≡ node.name) × (¬ (u.space ≡ outer.space))) → IsElsewhere d x node
+      to (k, u, at, (named, differ)) = record {
+        outer = outer;
+        inner = u;
+        device = device;
+        nested = nested;
+        listed = is;
+        among = item_among d.top.xbars k u at;
+        named = named;
+        differ = λ e. differ (sym e);
+      }
 
-  from : IsElsewhere d x node → (k : ℕ) × (u : XbarUse) × (slice_get d.top.xbars k ≡ Some u) × ((u.name ≡ node.name) × (¬ (u.space ≡ outer.space)))
-  from e =
-      let at = item_number d.top.xbars e.inner e.among in
-      let same : e.outer ≡ outer = same_item d.top.xbars x e.outer outer e.listed is in
-      (at.0, e.inner, at.1, (e.named, λ alike. e.differ (ap (λ (u : XbarUse). u.space) same ∙ sym alike)))
+      from : IsElsewhere d x node → (k : ℕ) × (u : XbarUse) × (slice_get d.top.xbars k ≡ Some u) × ((u.name ≡ node.name) × (¬ (u.space ≡ outer.space)))
+      from e =
+          let at = item_number d.top.xbars e.inner e.among in
+          let same : e.outer ≡ outer = same_item d.top.xbars x e.outer outer e.listed is in
+          (at.0, e.inner, at.1, (e.named, λ alike. e.differ (ap (λ (u : XbarUse). u.space) same ∙ sym alike)))

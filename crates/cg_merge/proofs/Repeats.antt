@@ -41,7 +41,7 @@ decides_direction true b = (λ is. is, λ is. is)
 decides_direction false true = (λ is. absurd (false≢true is), λ is. absurd (false≢true (sym is)))
 decides_direction false false = (λ is. refl, λ is. refl)
 
-decides_plain : (b : Bool) → Decides (not b) (b ≡ false)
+pub decides_plain : (b : Bool) → Decides (not b) (b ≡ false)
 decides_plain true = (λ is. absurd (false≢true is), λ is. absurd (false≢true (sym is)))
 decides_plain false = (λ is. refl, λ is. refl)
 
@@ -70,21 +70,21 @@ module _ (d : Design) (files : AreItsFiles d) (host : Bool) (i f : ℕ) (inst : 
       (decides_both _ _ (decides_direction host node.host) (decides_both _ _ (decides_plain node.xbar) (λ is. is, λ is. is)))
       to from
     where
-    to : (node.host ≡ host) × ((node.xbar ≡ false) × (is_meant node.name inst.name (eqb (length (interface_names host block)) 1) own ≡ true)) → Names d host node i f
-    to (direction, (plain, said)) = record {
-      direction = direction;
-      plain = plain;
-      inst = inst;
-      block = block;
-      is = of;
-      means = means inst.name node.name (interface_names host block) f own at said;
-    }
+      to : (node.host ≡ host) × ((node.xbar ≡ false) × (is_meant node.name inst.name (eqb (length (interface_names host block)) 1) own ≡ true)) → Names d host node i f
+      to (direction, (plain, said)) = record {
+        direction = direction;
+        plain = plain;
+        inst = inst;
+        block = block;
+        is = of;
+        means = means inst.name node.name (interface_names host block) f own at said;
+      }
 
-    from : Names d host node i f → (node.host ≡ host) × ((node.xbar ≡ false) × (is_meant node.name inst.name (eqb (length (interface_names host block)) 1) own ≡ true))
-    from names =
-        let same = one_of d files i names.inst inst names.block block names.is of in
-        let mine = subst (λ (b : LaidBlock). Means inst.name (interface_names host b) node.name f) same.1 (subst (λ (x : InstDesc). Means x.name (interface_names host names.block) node.name f) same.0 names.means) in
-        (names.direction, (names.plain, meant inst.name node.name (interface_names host block) f own at mine))
+      from : Names d host node i f → (node.host ≡ host) × ((node.xbar ≡ false) × (is_meant node.name inst.name (eqb (length (interface_names host block)) 1) own ≡ true))
+      from names =
+          let same = one_of d files i names.inst inst names.block block names.is of in
+          let mine = subst (λ (b : LaidBlock). Means inst.name (interface_names host b) node.name f) same.1 (subst (λ (x : InstDesc). Means x.name (interface_names host names.block) node.name f) same.0 names.means) in
+          (names.direction, (names.plain, meant inst.name node.name (interface_names host block) f own at mine))
 
 -- ---- nodes before
 
@@ -98,27 +98,27 @@ unfolding one_before
 decides_before d x n xbars nodes before p Q dec =
     decides_as _ (decides_either _ _ (decides_any (λ (xbar : XbarDesc). list_any p xbar.nodes) xbars (λ (xbar : XbarDesc). decides_any p xbar.nodes dec)) (decides_any p nodes dec)) to from
   where
-  InCrossbars : Type 0
-  InCrossbars = (y : ℕ) × (xbar : XbarDesc) × (slice_get xbars y ≡ Some xbar) × ((k : ℕ) × (node : NodeDesc) × (slice_get xbar.nodes k ≡ Some node) × Q node)
+    InCrossbars : Type 0
+    InCrossbars = (y : ℕ) × (xbar : XbarDesc) × (slice_get xbars y ≡ Some xbar) × ((k : ℕ) × (node : NodeDesc) × (slice_get xbar.nodes k ≡ Some node) × Q node)
 
-  InOwn : Type 0
-  InOwn = (k : ℕ) × (node : NodeDesc) × (slice_get nodes k ≡ Some node) × Q node
+    InOwn : Type 0
+    InOwn = (k : ℕ) × (node : NodeDesc) × (slice_get nodes k ≡ Some node) × Q node
 
-  to : InCrossbars ⊎ InOwn → SomeBefore d x n Q
-  to (inl (y, xbar, there, (k, node, at, q))) =
-      let in_front = before_is d.xbars x y xbar (subst (λ (xs : List XbarDesc). slice_get xs y ≡ Some xbar) before.crossbars there) in
-      (y, k, node, inl in_front.0, record { crossbar = xbar; crossbar_is = in_front.1; is = at }, q)
-  to (inr (k, node, at, q)) =
-      let in_front = before_is before.crossbar.nodes n k node (subst (λ (xs : List NodeDesc). slice_get xs k ≡ Some node) before.own at) in
-      (x, k, node, inr (refl, in_front.0), record { crossbar = before.crossbar; crossbar_is = before.is; is = in_front.1 }, q)
+    to : InCrossbars ⊎ InOwn → SomeBefore d x n Q
+    to (inl (y, xbar, there, (k, node, at, q))) =
+        let in_front = before_is d.xbars x y xbar (subst (λ (xs : List XbarDesc). slice_get xs y ≡ Some xbar) before.crossbars there) in
+        (y, k, node, inl in_front.0, record { crossbar = xbar; crossbar_is = in_front.1; is = at }, q)
+    to (inr (k, node, at, q)) =
+        let in_front = before_is before.crossbar.nodes n k node (subst (λ (xs : List NodeDesc). slice_get xs k ≡ Some node) before.own at) in
+        (x, k, node, inr (refl, in_front.0), record { crossbar = before.crossbar; crossbar_is = before.is; is = in_front.1 }, q)
 
-  from : SomeBefore d x n Q → InCrossbars ⊎ InOwn
-  from (y, k, node, inl less, is, q) =
-      inl (y, is.crossbar, subst (λ (xs : List XbarDesc). slice_get xs y ≡ Some is.crossbar) (sym before.crossbars) (is_before d.xbars x y is.crossbar less is.crossbar_is), (k, node, is.is, q))
-  from (y, k, node, inr (same, less), is, q) =
-      let mine : is.crossbar ≡ before.crossbar = same_item d.xbars x is.crossbar before.crossbar (subst (λ z. slice_get d.xbars z ≡ Some is.crossbar) same is.crossbar_is) before.is in
-      let at : slice_get before.crossbar.nodes k ≡ Some node = subst (λ (b : XbarDesc). slice_get b.nodes k ≡ Some node) mine is.is in
-      inr (k, node, subst (λ (xs : List NodeDesc). slice_get xs k ≡ Some node) (sym before.own) (is_before before.crossbar.nodes n k node less at), q)
+    from : SomeBefore d x n Q → InCrossbars ⊎ InOwn
+    from (y, k, node, inl less, is, q) =
+        inl (y, is.crossbar, subst (λ (xs : List XbarDesc). slice_get xs y ≡ Some is.crossbar) (sym before.crossbars) (is_before d.xbars x y is.crossbar less is.crossbar_is), (k, node, is.is, q))
+    from (y, k, node, inr (same, less), is, q) =
+        let mine : is.crossbar ≡ before.crossbar = same_item d.xbars x is.crossbar before.crossbar (subst (λ z. slice_get d.xbars z ≡ Some is.crossbar) same is.crossbar_is) before.is in
+        let at : slice_get before.crossbar.nodes k ≡ Some node = subst (λ (b : XbarDesc). slice_get b.nodes k ≡ Some node) mine is.is in
+        inr (k, node, subst (λ (xs : List NodeDesc). slice_get xs k ≡ Some node) (sym before.own) (is_before before.crossbar.nodes n k node less at), q)
 
 -- ---- interfaces that are named again
 
@@ -171,25 +171,25 @@ decides_again m read host x n i xbars nodes before node inst block of {X} v xs n
 pub decides_repeats : (m : MergedTop) → AreRead m → (x n i : ℕ) (xbars : List XbarDesc) (nodes : List NodeDesc) → IsBefore (design_of m) x n xbars nodes → (node : NodeDesc) (inst : InstDesc) (block : LaidBlock)
     → IsOf (design_of m) i inst block
     → Decides (list_any (λ (face : LaidFace). repeats false inst.name (eqb (length block.faces) 1) xbars nodes node face.name) block.faces
-        || list_any (λ (face : HostFace). repeats true inst.name (eqb (length block.desc.hosts) 1) xbars nodes node face.name) block.desc.hosts) (RepeatsIn (design_of m) x n node i)
+    || list_any (λ (face : HostFace). repeats true inst.name (eqb (length block.desc.hosts) 1) xbars nodes node face.name) block.desc.hosts) (RepeatsIn (design_of m) x n node i)
 decides_repeats m read x n i xbars nodes before node inst block of =
     decides_as _
     (decides_either _ _ (decides_again m read false x n i xbars nodes before node inst block of (λ (face : LaidFace). face.name) block.faces refl)
     (decides_again m read true x n i xbars nodes before node inst block of (λ (face : HostFace). face.name) block.desc.hosts refl)) to from where
-  made : (host : Bool) → Again (design_of m) host x n node i → RepeatsIn (design_of m) x n node i
-  made host (f, names, (y, k, earlier, stands, is, also)) =
-      record { host = host; face = f; names = names; y = y; k = k; earlier = earlier; before = stands; is = is; also = also }
+      made : (host : Bool) → Again (design_of m) host x n node i → RepeatsIn (design_of m) x n node i
+      made host (f, names, (y, k, earlier, stands, is, also)) =
+          record { host = host; face = f; names = names; y = y; k = k; earlier = earlier; before = stands; is = is; also = also }
 
-  to : Again (design_of m) false x n node i ⊎ Again (design_of m) true x n node i → RepeatsIn (design_of m) x n node i
-  to (inl again) = made false again
-  to (inr again) = made true again
+      to : Again (design_of m) false x n node i ⊎ Again (design_of m) true x n node i → RepeatsIn (design_of m) x n node i
+      to (inl again) = made false again
+      to (inr again) = made true again
 
-  by : (host : Bool) → Again (design_of m) host x n node i → Again (design_of m) false x n node i ⊎ Again (design_of m) true x n node i
-  by true again = inr again
-  by false again = inl again
+      by : (host : Bool) → Again (design_of m) host x n node i → Again (design_of m) false x n node i ⊎ Again (design_of m) true x n node i
+      by true again = inr again
+      by false again = inl again
 
-  from : RepeatsIn (design_of m) x n node i → Again (design_of m) false x n node i ⊎ Again (design_of m) true x n node i
-  from r = by r.host (r.face, r.names, (r.y, r.k, r.earlier, r.before, r.is, r.also))
+      from : RepeatsIn (design_of m) x n node i → Again (design_of m) false x n node i ⊎ Again (design_of m) true x n node i
+      from r = by r.host (r.face, r.names, (r.y, r.k, r.earlier, r.before, r.is, r.also))
 
 -- where there is no block, nothing is named
 pub repeats_none : (m : MergedTop) → AreRead m → (x n i : ℕ) (node : NodeDesc) → block_of m i ≡ None → Decides false (RepeatsIn (design_of m) x n node i)

@@ -73,9 +73,9 @@ decides_left owed bytes (b ∷ bs) =
     let rest = by (λ o cs. decides_left o cs bs) (behind_spelled owed bytes b) in
     (λ is. go.1 (rest.0 is), λ is. rest.1 (go.0 is))
   where
-  by : ((o : Bool) (cs : List ℕ) → Decides (is_left o cs bs) (left o cs ≡ spelled bs)) → (o : Option Left) → Decides (left_passes (λ p cs. is_left p cs bs) o) (Same o (spelled bs))
-  by more None = (λ is. absurd (false≢true is), λ is. absurd is)
-  by more (Some r) = more r.0 r.1
+    by : ((o : Bool) (cs : List ℕ) → Decides (is_left o cs bs) (left o cs ≡ spelled bs)) → (o : Option Left) → Decides (left_passes (λ p cs. is_left p cs bs) o) (Same o (spelled bs))
+    by more None = (λ is. absurd (false≢true is), λ is. absurd is)
+    by more (Some r) = more r.0 r.1
 
 one_bool : {P : Type 0} (a b : Bool) → Decides a P → Decides b P → a ≡ b
 one_bool true true d e = refl

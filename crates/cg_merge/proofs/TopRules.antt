@@ -73,9 +73,9 @@ decides_listed top name =
     let d = has_name (λ (s : SpaceDesc). s.name) top.spaces name in (
       λ is. let one = d.0 is in item_among (map (λ (s : SpaceDesc). s.name) top.spaces) one.0 name (image_at (λ (s : SpaceDesc). s.name) top.spaces one.0 one.1 one.2 ∙ ap Some one.3),
       λ among.
-        let there = item_number (map (λ (s : SpaceDesc). s.name) top.spaces) name among in
-        let one = image_of (λ (s : SpaceDesc). s.name) top.spaces there.0 name there.1 in
-        d.1 (there.0, one.0, one.1, one.2),
+          let there = item_number (map (λ (s : SpaceDesc). s.name) top.spaces) name among in
+          let one = image_of (λ (s : SpaceDesc). s.name) top.spaces there.0 name there.1 in
+          d.1 (there.0, one.0, one.1, one.2),
     )
 
 -- ---- what the rules tell
@@ -85,11 +85,11 @@ pub tells_space : (d : Design) (n : ℕ) (space : SpaceDesc) → n ≤ length d.
     → TellsFirst (cond (list_any (λ s. bytes_eq s.name space.name) (take n d.top.spaces)) (Some (rules.bad_space space.at space.name)) None) (BreaksSpace d n space)
 tells_space d n space within =
     tells_as (tells_when _ (rules.bad_space space.at space.name) (has_name_before (λ (s : SpaceDesc). s.name) d.top.spaces n space.name within)) to from where
-  to : (f : Finding) → ((j : ℕ) × (s : SpaceDesc) × (j < n) × (slice_get d.top.spaces j ≡ Some s) × (s.name ≡ space.name)) × (f ≡ rules.bad_space space.at space.name) → BreaksSpace d n space f
-  to f ((j, s, less, there, named), is) = subst (BreaksSpace d n space) (sym is) (BreaksSpace.twice j s less there named)
+      to : (f : Finding) → ((j : ℕ) × (s : SpaceDesc) × (j < n) × (slice_get d.top.spaces j ≡ Some s) × (s.name ≡ space.name)) × (f ≡ rules.bad_space space.at space.name) → BreaksSpace d n space f
+      to f ((j, s, less, there, named), is) = subst (BreaksSpace d n space) (sym is) (BreaksSpace.twice j s less there named)
 
-  from : (f : Finding) → BreaksSpace d n space f → ((j : ℕ) × (s : SpaceDesc) × (j < n) × (slice_get d.top.spaces j ≡ Some s) × (s.name ≡ space.name)) × (f ≡ rules.bad_space space.at space.name)
-  from _ (BreaksSpace.twice j s less there named) = ((j, s, less, there, named), refl)
+      from : (f : Finding) → BreaksSpace d n space f → ((j : ℕ) × (s : SpaceDesc) × (j < n) × (slice_get d.top.spaces j ≡ Some s) × (s.name ≡ space.name)) × (f ≡ rules.bad_space space.at space.name)
+      from _ (BreaksSpace.twice j s less there named) = ((j, s, less, there, named), refl)
 
 -- a base, or a crossbar, for a space
 pub tells_unlisted : (top : TopDesc) (at : At) (space : List ℕ)

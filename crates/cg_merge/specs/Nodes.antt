@@ -1,5 +1,5 @@
 -- How the rules on nodes are tested: which interface a node means, which nodes stand before it, and which crossbars it joins.
-use Rattle.std.specs.Prelude.{◌≡◌, ◌≢◌, ℕ, ◌<◌, Bool, true, false, not, ◌&&◌, ◌||◌, List, slice_get, take, Option, None, Some}
+use Rattle.std.specs.Prelude.{◌≡◌, ◌≢◌, ℕ, ◌<◌, Bool, true, false, not, ◌&&◌, ◌||◌, List, [], slice_get, take, Option, None, Some}
 use Rattle.std.specs.List.{list_any}
 use Rattle.std.specs.Str.{bytes_eq}
 use Rattle.cg_svspec.specs.Links.{spelled}
@@ -115,3 +115,7 @@ joins outer node inner = bytes_eq node.name inner.name && list_any (is_partner o
 abbrev pub EndsIn : Design → NodeDesc → ℕ → Option NodeEnd → Type 0
 EndsIn d node i None = (host : Bool) (f : ℕ) → Names d host node i f → ⊥
 EndsIn d node i (Some e) = (x : ℕ) → StandsFor d x node e
+
+-- a device that names no interface and has no range
+abbrev pub NamesNothing : Design → NodeDesc → Type 0
+NamesNothing d node = (node.host ≡ false) × ((node.ranges ≡ []) × ((i : ℕ) × ((f : ℕ) × Names d false node i f) → ⊥))

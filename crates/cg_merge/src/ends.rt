@@ -17,11 +17,9 @@ fn face_of(inst: &InstDesc, block: &LaidBlock, node: &NodeDesc) -> Option<usize>
 {
     let instance = inst.name.as_str();
     let is_sole = block.faces.len() == 1;
-    block
-        .faces
-        .as_slice()
-        .iter()
-        .position(|face| is_node_for(false, instance, is_sole, &face.name, node))
+    block.faces.as_slice().iter().position(|face| is_node_for(
+        false, instance, is_sole, &face.name, node,
+    ))
 }
 
 /// The number of the first host interface of an instance of a block that a node names.
@@ -30,12 +28,9 @@ fn host_of(inst: &InstDesc, block: &LaidBlock, node: &NodeDesc) -> Option<usize>
 {
     let instance = inst.name.as_str();
     let is_sole = block.desc.hosts.len() == 1;
-    block
-        .desc
-        .hosts
-        .as_slice()
-        .iter()
-        .position(|face| is_node_for(true, instance, is_sole, &face.name, node))
+    block.desc.hosts.as_slice().iter().position(|face| is_node_for(
+        true, instance, is_sole, &face.name, node,
+    ))
 }
 
 /// Whether a node is a partner of a node in the crossbar of this name.
@@ -87,7 +82,5 @@ pub(crate) fn joins_one(xbars: &[XbarDesc], outer: &str, node: &NodeDesc) -> boo
 pub(crate) fn is_elsewhere(xbars: &[XbarUse], name: &str, space: &str) -> bool
     ensures { result ≡ list_any (λ u. bytes_eq u.name name.now && not (bytes_eq u.space space.now)) xbars.now }
 {
-    xbars
-        .iter()
-        .any(|xbar| xbar.name.as_str() == name && xbar.space.as_str() != space)
+    xbars.iter().any(|xbar| xbar.name.as_str() == name && xbar.space.as_str() != space)
 }

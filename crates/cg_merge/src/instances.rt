@@ -2,7 +2,6 @@
 
 ghost use Rattle.std.specs.Prelude.{◌≡◌, ◌<◌, ◌^◌, ℕ, length, Some, slice_get};
 ghost use Rattle.std.specs.Bool.{Decides};
-
 ghost use Rattle.cg_desc.specs.Ends.{InstanceIs};
 ghost use Rattle.cg_desc.specs.Merged.{BaseIs, design_of};
 ghost use Rattle.cg_desc.specs.declared.top.InstDesc.{InstDesc};

@@ -12,6 +12,7 @@ use cg_base::Text;
 use cg_desc::{InstDesc, LaidBlock, MergedTop, NodeDesc, XbarDesc, is_meant};
 
 /// The nodes that stand before one: those of the earlier crossbars, and the earlier ones of its own.
+#[derive(Drop)]
 pub(crate) struct Before<'a> {
     pub xbars: &'a [XbarDesc],
     pub nodes: &'a [NodeDesc],
@@ -25,7 +26,13 @@ pub(crate) fn agrees(host: bool, other: bool) -> bool
 
 /// Whether a node of this direction that stands for no crossbar means an interface of an instance.
 #[tactic(auto, unfolding(crate::specs::Nodes::is_node_for))]
-pub(crate) fn is_node_for(host: bool, instance: &str, is_sole: bool, interface: &Option<Text>, node: &NodeDesc) -> bool
+pub(crate) fn is_node_for(
+    host: bool,
+    instance: &str,
+    is_sole: bool,
+    interface: &Option<Text>,
+    node: &NodeDesc,
+) -> bool
     ensures { result ≡ is_node_for host instance.now is_sole interface.now node.now }
 {
     if !agrees(host, node.host) {
@@ -37,25 +44,39 @@ pub(crate) fn is_node_for(host: bool, instance: &str, is_sole: bool, interface: 
     is_meant(node.name.as_str(), instance, is_sole, interface)
 }
 
-fn one_means(host: bool, instance: &str, is_sole: bool, interface: &Option<Text>, nodes: &[NodeDesc]) -> bool
+fn one_means(
+    host: bool,
+    instance: &str,
+    is_sole: bool,
+    interface: &Option<Text>,
+    nodes: &[NodeDesc],
+) -> bool
     ensures { result ≡ list_any (is_node_for host instance.now is_sole interface.now) nodes.now }
 {
-    nodes
-        .iter()
-        .any(|node| is_node_for(host, instance, is_sole, interface, node))
+    nodes.iter().any(|node| is_node_for(host, instance, is_sole, interface, node))
 }
 
-fn crossbar_means(host: bool, instance: &str, is_sole: bool, interface: &Option<Text>, xbars: &[XbarDesc]) -> bool
+fn crossbar_means(
+    host: bool,
+    instance: &str,
+    is_sole: bool,
+    interface: &Option<Text>,
+    xbars: &[XbarDesc],
+) -> bool
     ensures { result ≡ list_any (λ xbar. list_any (is_node_for host instance.now is_sole interface.now) xbar.nodes) xbars.now }
 {
-    xbars
-        .iter()
-        .any(|xbar| one_means(host, instance, is_sole, interface, xbar.nodes.as_slice()))
+    xbars.iter().any(|xbar| one_means(host, instance, is_sole, interface, xbar.nodes.as_slice()))
 }
 
 /// Whether a node that stands before means an interface.
 #[tactic(auto, unfolding(crate::specs::Nodes::one_before))]
-fn is_taken(host: bool, instance: &str, is_sole: bool, interface: &Option<Text>, before: &Before) -> bool
+fn is_taken(
+    host: bool,
+    instance: &str,
+    is_sole: bool,
+    interface: &Option<Text>,
+    before: &Before,
+) -> bool
     ensures { result ≡ one_before (is_node_for host instance.now is_sole interface.now) before.now.xbars.now before.now.nodes.now }
 {
     let earlier = crossbar_means(host, instance, is_sole, interface, before.xbars);
@@ -63,7 +84,14 @@ fn is_taken(host: bool, instance: &str, is_sole: bool, interface: &Option<Text>,
 }
 
 /// Whether a node means an interface, and one before it does.
-fn repeats(host: bool, instance: &str, is_sole: bool, before: &Before, node: &NodeDesc, interface: &Option<Text>) -> bool
+fn repeats(
+    host: bool,
+    instance: &str,
+    is_sole: bool,
+    before: &Before,
+    node: &NodeDesc,
+    interface: &Option<Text>,
+) -> bool
     ensures { result ≡ repeats host instance.now is_sole before.now.xbars.now before.now.nodes.now node.now interface.now }
 {
     if !is_node_for(host, instance, is_sole, interface, node) {
@@ -78,11 +106,9 @@ fn repeats_face(inst: &InstDesc, block: &LaidBlock, before: &Before, node: &Node
 {
     let instance = inst.name.as_str();
     let is_sole = block.faces.len() == 1;
-    block
-        .faces
-        .as_slice()
-        .iter()
-        .any(|face| repeats(false, instance, is_sole, before, node, &face.name))
+    block.faces.as_slice().iter().any(|face| repeats(
+        false, instance, is_sole, before, node, &face.name,
+    ))
 }
 
 /// Whether a node names a host interface of an instance of a block that one before it names.
@@ -91,22 +117,26 @@ fn repeats_host(inst: &InstDesc, block: &LaidBlock, before: &Before, node: &Node
 {
     let instance = inst.name.as_str();
     let is_sole = block.desc.hosts.len() == 1;
-    block
-        .desc
-        .hosts
-        .as_slice()
-        .iter()
-        .any(|face| repeats(true, instance, is_sole, before, node, &face.name))
+    block.desc.hosts.as_slice().iter().any(|face| repeats(
+        true, instance, is_sole, before, node, &face.name,
+    ))
 }
 
 /// Whether a node names an interface of an instance that one before it names.
-fn repeats_in(top: &MergedTop, number: u32, inst: &InstDesc, before: &Before, node: &NodeDesc) -> bool
+fn repeats_in(
+    top: &MergedTop,
+    number: u32,
+    inst: &InstDesc,
+    before: &Before,
+    node: &NodeDesc,
+) -> bool
     requires read { AreRead top.now }
     requires there { InstanceIs (design_of top.now) number inst.now }
     ensures { (x n : ℕ) → IsBefore (design_of top.now) x n before.now.xbars.now before.now.nodes.now → Decides result (RepeatsIn (design_of top.now) x n node.now number) }
 {
     match top.block_of(number) {
-        Some(block) => repeats_face(inst, block, before, node) | repeats_host(inst, block, before, node),
+        Some(block) => repeats_face(inst, block, before, node)
+            | repeats_host(inst, block, before, node),
         None => false,
     }
 }
@@ -130,11 +160,9 @@ fn means_face(inst: &InstDesc, block: &LaidBlock, node: &NodeDesc) -> bool
 {
     let instance = inst.name.as_str();
     let is_sole = block.faces.len() == 1;
-    block
-        .faces
-        .as_slice()
-        .iter()
-        .any(|face| is_node_for(false, instance, is_sole, &face.name, node))
+    block.faces.as_slice().iter().any(|face| is_node_for(
+        false, instance, is_sole, &face.name, node,
+    ))
 }
 
 /// Whether a node names a device interface of an instance.

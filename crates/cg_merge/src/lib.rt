@@ -9,6 +9,7 @@
 mod ends;
 mod instances;
 mod interfaces;
+mod nodes;
 mod one;
 mod spelling;
 mod top_rules;

@@ -19,7 +19,10 @@ fn behind_byte<'a>(rest: Rest<'a>, byte: u8) -> Option<Rest<'a>>
 {
     if rest.owed {
         if byte == b'_' {
-            return Some(Rest { owed: false, bytes: rest.bytes });
+            return Some(Rest {
+                owed: false,
+                bytes: rest.bytes,
+            });
         }
         return None;
     }
@@ -65,7 +68,11 @@ fn is_left(name: &str, other: &str) -> bool
             None => return false,
         }
     }
-    if rest.owed { false } else { rest.bytes.is_empty() }
+    if rest.owed {
+        false
+    } else {
+        rest.bytes.is_empty()
+    }
 }
 
 /// Whether two names have one spelling.

@@ -18,8 +18,8 @@ pub returns : goal.returns
 returns c = (
   λ is. absurd (false≢true is),
   λ r.
-    let names = r.1.1 in
-    let within = slice_get_within c.args.top.now.top.insts r.0 names.inst names.is.instance in
-    let most = rw c.as_slice-inst-items.ensures at c.loop-number-test.false in
-    absurd (c.loop-number.invariant r.0 (omega arith) r.1),
+      let names = r.1.1 in
+      let within = slice_get_within c.args.top.now.top.insts r.0 names.inst names.is.instance in
+      let most = rw c.as_slice-inst-items.ensures at c.loop-number-test.false in
+      absurd (c.loop-number.invariant r.0 (omega arith) r.1),
 )

@@ -15,7 +15,7 @@ pub returns : goal.returns
 returns c x n before = (
   λ is. absurd (false≢true is),
   λ r.
-    let within = slice_get_within c.args.top.now.top.insts r.i r.repeats.names.inst r.repeats.names.is.instance in
-    let most = rw c.as_slice-inst-items.ensures at c.loop-number-test.false in
-    absurd (c.loop-number.invariant x n before r.i (omega arith) r.repeats),
+      let within = slice_get_within c.args.top.now.top.insts r.i r.repeats.names.inst r.repeats.names.is.instance in
+      let most = rw c.as_slice-inst-items.ensures at c.loop-number-test.false in
+      absurd (c.loop-number.invariant x n before r.i (omega arith) r.repeats),
 )
