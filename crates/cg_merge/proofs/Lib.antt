@@ -5,3 +5,4 @@ mod Repeats
 mod Partners
 mod Spellings
 mod NodeRules
+mod FirstFaults

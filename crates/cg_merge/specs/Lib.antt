@@ -3,3 +3,5 @@ pub mod Merges
 pub mod Checks
 pub mod Nodes
 pub mod Spelling
+pub mod Faults
+pub mod Kinds

@@ -7,7 +7,9 @@
 #![tactic(auto)]
 
 mod ends;
+mod faults;
 mod instances;
+mod kinds;
 mod interfaces;
 mod nodes;
 mod one;
