@@ -134,7 +134,7 @@ module _ (d : Design) (files : AreItsFiles d) (i f : ℕ) (inst : InstDesc) (blo
 
 -- the block that is found is the instance's
 module _ (m : MergedTop) (files : AreItsFiles (design_of m)) (kinds : AreKinds m) (i : ℕ) where
-  block_there : (inst : InstDesc) (block : LaidBlock) → IsOf (design_of m) i inst block → block_of m i ≡ Some block
+  pub block_there : (inst : InstDesc) (block : LaidBlock) → IsOf (design_of m) i inst block → block_of m i ≡ Some block
   unfolding block_of block_at
   block_there inst block of =
       let within = slice_get_within m.top.insts i inst of.instance in
@@ -143,7 +143,7 @@ module _ (m : MergedTop) (files : AreItsFiles (design_of m)) (kinds : AreKinds m
       let same = one_block (design_of m) files inst.kind kind.0 of.number is.0 block is.1 of.block_is in
       rw kind.1 (is.1.is ∙ ap Some same.1)
 
-  block_is : (inst : InstDesc) (block : LaidBlock) → InstanceIs (design_of m) i inst → block_of m i ≡ Some block → IsOf (design_of m) i inst block
+  pub block_is : (inst : InstDesc) (block : LaidBlock) → InstanceIs (design_of m) i inst → block_of m i ≡ Some block → IsOf (design_of m) i inst block
   block_is inst block there is =
       let within = slice_get_within m.top.insts i inst there in
       let kind = item_at m.kinds i (subst (λ n. i < n) (sym kinds.count) within) in

@@ -1,2 +1,8 @@
 mod Walks
 mod TopRules
+mod InstanceRules
+mod Repeats
+mod Partners
+mod Spellings
+mod NodeRules
+mod FirstFaults

@@ -1,3 +1,7 @@
 pub mod Violations
 pub mod Merges
 pub mod Checks
+pub mod Nodes
+pub mod Spelling
+pub mod Faults
+pub mod Kinds

@@ -6,6 +6,14 @@
 //! nest in a circle, which other layers judge.
 #![tactic(auto)]
 
+mod ends;
+mod faults;
+mod instances;
+mod kinds;
+mod interfaces;
+mod nodes;
 mod one;
+mod spelling;
+mod top_rules;
 
 pub use one::merge_one;

@@ -1,0 +1,18 @@
+use Rattle.cg_desc.specs.Merged.{design_of}
+use Rattle.cg_merge.specs.Violations.{BreaksUse}
+use Rattle.cg_merge.proofs.Walks.{walk_end, walk_next, walk_start}
+use Rattle.cg_merge.proofs.top_rules.first_in_uses.Goals as goal
+
+pub loop-number-init : goal.loop-number-init
+loop-number-init c = walk_start (BreaksUse (design_of c.args.top.now)) c.args.top.now.top.xbars
+
+pub loop-number-preserved : goal.loop-number-preserved
+loop-number-preserved c =
+    let less = rw c.as_slice-listed-items.ensures at c.loop-number-test.true in
+    let is = rw c.as_slice-listed-items.ensures at c.listed-item.is in
+    walk_next (BreaksUse (design_of c.args.top.now)) c.args.top.now.top.xbars c.loop-number.number c.listed-item.result _ _ _ less is c.loop-number.invariant c.first_in_use.ensures c.earlier_of-first.ensures
+
+pub returns : goal.returns
+returns c =
+    let most = rw c.as_slice-listed-items.ensures at c.loop-number-test.false in
+    walk_end (BreaksUse (design_of c.args.top.now)) c.args.top.now.top.xbars _ c.loop-number.number most c.loop-number.invariant
