@@ -3,3 +3,7 @@ pub mod NameTests
 pub mod DuplicateKeys
 pub mod Relation
 pub mod KeysOnce
+pub mod SeenNames
+pub mod FirstMembers
+pub mod ListFacts
+pub mod Fitting

@@ -5,3 +5,4 @@ pub mod Elements
 pub mod Lookups
 pub mod Duplicates
 pub mod Violations
+pub mod Lists

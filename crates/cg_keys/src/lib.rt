@@ -10,6 +10,7 @@
 #![tactic(auto)]
 
 mod duplicates;
+mod firsts;
 mod forms;
 mod laws;
 mod lists;
@@ -20,6 +21,7 @@ mod values;
 mod words;
 
 pub use duplicates::first_duplicate;
+pub use firsts::{first_in_members, first_members};
 pub use forms::{Form, boolean, fits, fits_one, number_within, rule_broken};
 pub use laws::{names_pass_the_test, repeats_are_violations, tables_find_violations};
 pub use lists::{

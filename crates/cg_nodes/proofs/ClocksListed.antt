@@ -32,7 +32,7 @@ both_false true b h = cc
 both_false false b h = (refl, h)
 
 -- a new name stands in the list, and not before it
-in_new : (before ns : List (List ℕ)) (n : List ℕ) → Among n (new_names before ns) → Among n ns × (is_among before n ≡ false)
+pub in_new : (before ns : List (List ℕ)) (n : List ℕ) → Among n (new_names before ns) → Among n ns × (is_among before n ≡ false)
 unfolding new_names
 in_new before [] n among = absurd among
 in_new before (m ∷ ms) n among = by (λ b h. in_new b ms n h) (is_among before m) refl among
@@ -43,7 +43,7 @@ in_new before (m ∷ ms) n among = by (λ b h. in_new b ms n h) (is_among before
     by rest false is (inl same) = (inl same, ap (is_among before) same ∙ is)
     by rest false is (inr h) = let r = rest (m ∷ before) h in (inr r.0, (both_false (bytes_eq m n) (is_among before n) r.1).1)
 
-new_has : (before ns : List (List ℕ)) (n : List ℕ) → Among n ns → is_among before n ≡ false → Among n (new_names before ns)
+pub new_has : (before ns : List (List ℕ)) (n : List ℕ) → Among n ns → is_among before n ≡ false → Among n (new_names before ns)
 unfolding new_names
 new_has before [] n among new = absurd among
 new_has before (m ∷ ms) n among new = by (λ b h k. new_has b ms n h k) (is_among before m) refl (bytes_eq m n) refl among
@@ -62,7 +62,7 @@ new_has before (m ∷ ms) n among new = by (λ b h k. new_has b ms n h k) (is_am
 -- ---- by first use
 
 -- one name stands at a place up to which the other does not
-abbrev Before : List (List ℕ) → List ℕ → List ℕ → Type 0
+abbrev pub Before : List (List ℕ) → List ℕ → List ℕ → Type 0
 Before uses a b = (i : ℕ) × (slice_get uses i ≡ Some a) × ((j : ℕ) → j ≤ i → slice_get uses j ≢ Some b)
 
 all_map : {X : Type 0} (P Q : X → Type 0) (xs : List X) → ((x : X) → Among x xs → P x → Q x) → AllOf P xs → AllOf Q xs
@@ -82,7 +82,7 @@ one_in_front m ms a b other (i, at, none) = (suc i, at, λ j le. by j le)
     by zero le is = let same : m ≡ b = cc in other same
     by (suc j) le is = none j (omega arith) is
 
-new_rise : (before ns : List (List ℕ)) → Rises (Before ns) (new_names before ns)
+pub new_rise : (before ns : List (List ℕ)) → Rises (Before ns) (new_names before ns)
 unfolding new_names
 new_rise before [] = tt
 new_rise before (m ∷ ms) = by (λ b. new_rise b ms) (is_among before m) refl
@@ -114,7 +114,7 @@ new_rise before (m ∷ ms) = by (λ b. new_rise b ms) (is_among before m) refl
     )
 
 -- no two names stand before each other
-once : (uses : List (List ℕ)) (a b : List ℕ) → Before uses a b → Before uses b a → ⊥
+pub once : (uses : List (List ℕ)) (a b : List ℕ) → Before uses a b → Before uses b a → ⊥
 once uses a b (i, at_i, no_b) (j, at_j, no_a) = no_b j (late i j (λ le. no_a i le at_i)) at_j
   where
     late : (i j : ℕ) → (i ≤ j → ⊥) → j ≤ i

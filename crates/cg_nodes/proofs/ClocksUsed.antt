@@ -28,7 +28,7 @@ has_among : (names : Names) (n : List ℕ) → list_any (λ k. bytes_eq n k.now)
 has_among [] n = refl
 has_among (k ∷ ks) n = λ i. nat_list_eq_equiv.symm n k.now i || has_among ks n i
 
-inserted_bytes : (names : Names) (n : Bor (List ℕ)) → bytes_of (inserted names n) ≡ cond (is_among (bytes_of names) n.now) (bytes_of names) (bytes_of names ++ n.now ∷ [])
+pub inserted_bytes : (names : Names) (n : Bor (List ℕ)) → bytes_of (inserted names n) ≡ cond (is_among (bytes_of names) n.now) (bytes_of names) (bytes_of names ++ n.now ∷ [])
 inserted_bytes names n = by (list_any (λ k. bytes_eq n.now k.now) names) (is_among (bytes_of names) n.now) (has_among names n.now)
   where
     by : (a b : Bool) → a ≡ b → bytes_of (cond a names (names ++ n ∷ [])) ≡ cond b (bytes_of names) (bytes_of names ++ n.now ∷ [])

@@ -1,5 +1,5 @@
-mod Order
+pub mod Order
 mod PartsListed
 mod Numbers
-mod ClocksListed
-mod ClocksUsed
+pub mod ClocksListed
+pub mod ClocksUsed

@@ -7,7 +7,7 @@ use Rattle.cg_hjson.specs.declared.tree.Tree.{Tree}
 use Rattle.cg_xbread.specs.Listed.{element_faults_after, is_named, node_twice}
 use Rattle.cg_xbread.specs.Written.{text_of}
 use Rattle.cg_xbread.specs.declared.written.WrittenNode.{WrittenNode}
-use Rattle.cg_xbread.proofs.SeenNames.{HasNamesOf, Names, has}
+use Rattle.cg_keys.proofs.SeenNames.{HasNamesOf, Names, has}
 
 unless_new : (is_new known : Bool) (fs : List Finding) → is_new ≡ not known → cond is_new [] fs ≡ cond known fs []
 unless_new true true fs e = cc

@@ -10,7 +10,7 @@ use Rattle.cg_keys.specs.Values.{items_of}
 use Rattle.cg_xbread.specs.Listed.{host_elements, is_named, lonely_device}
 use Rattle.cg_xbread.specs.Written.{text_of}
 use Rattle.cg_xbread.specs.declared.written.WrittenNode.{WrittenNode}
-use Rattle.cg_xbread.proofs.SeenNames.{Inserted, Names, has}
+use Rattle.cg_keys.proofs.SeenNames.{Inserted, Names, has}
 
 -- one of these elements has the name
 abbrev pub lists_name : List Tree → List ℕ → Bool

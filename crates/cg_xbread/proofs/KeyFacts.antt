@@ -11,35 +11,21 @@ use Rattle.cg_hjson.specs.declared.tree.Member.{Member}
 use Rattle.cg_keys.specs.Duplicates.{duplicate_faults}
 use Rattle.cg_keys.specs.Elements.{each_faults, element_faults, elements, in_object, item_faults, length_faults, list_faults, object_faults}
 use Rattle.cg_keys.specs.Forms.{fits, fits_one, rule_broken, takes}
-use Rattle.cg_keys.specs.Table.{Key, table_faults, value_at, value_faults}
+use Rattle.cg_keys.specs.Table.{table_faults, value_at, value_faults}
 use Rattle.cg_keys.specs.Values.{members_of, object_in, or_empty, text_in}
-use Rattle.cg_keys.specs.Violations.{BreaksTable}
 use Rattle.cg_keys.specs.declared.forms.Form.TheVariants as form
 use Rattle.cg_keys.proofs.DuplicateKeys.{duplicate_faults_has, in_duplicate_faults}
 use Rattle.cg_keys.proofs.Relation.{in_table_faults, table_faults_has}
-use Rattle.cg_xbread.specs.Listed.{connection_faults, first_members, key_faults, is_node_name, node_faults, node_members_faults, node_name_faults}
+use Rattle.cg_keys.specs.Lists.{first_members}
+use Rattle.cg_xbread.specs.Listed.{connection_faults, key_faults, is_node_name, node_faults, node_members_faults, node_name_faults}
 use Rattle.cg_xbread.specs.Tables.{crossbar_keys, node_keys, range_keys}
 use Rattle.cg_xbread.specs.Violations as fact
-use Rattle.cg_xbread.specs.Violations.{BadNodeName, BreaksKeys, BreaksNode, BreaksRange, InElement, TooLong, WrongElement, WrongForm}
+use Rattle.cg_keys.specs.Lists.{WrongElement, WrongForm}
+use Rattle.cg_xbread.specs.Violations.{BadNodeName, BreaksKeys, BreaksNode, BreaksRange}
 use Rattle.cg_xbread.specs.Written.{connections_of}
-use Rattle.cg_xbread.proofs.FirstMembers.{First, Found, first_is_found, found_is_first}
-use Rattle.cg_xbread.proofs.ListFacts.{elements_have, in_elements, in_item_faults, in_length_faults, in_list_faults, item_faults_has, length_faults_has, list_faults_has}
+use Rattle.cg_keys.proofs.FirstMembers.{First, Found, first_is_found, found_is_first}
+use Rattle.cg_keys.proofs.ListFacts.{elements_have, in_elements, in_item_faults, in_length_faults, in_list_faults, in_object_keys, item_faults_has, length_faults_has, list_faults_has, object_keys_has}
 use Rattle.cg_xbread.proofs.NodeNames.{is_name_of_node, no_name_of_node}
-
--- ---- ranges
-
-in_object_keys : (ks : List Key) (f : Finding) (t : Tree) → In f (object_faults ks t) → (inner : List Member) × (object_in t ≡ Some inner) × BreaksTable t.at inner ks f
-unfolding object_faults
-in_object_keys ks f t among = by (object_in t) refl among
-  where
-    by : (o : Option (List Member)) → object_in t ≡ o → In f (in_object t.at ks o) → (inner : List Member) × (object_in t ≡ Some inner) × BreaksTable t.at inner ks f
-    by None is h = absurd h
-    by (Some ms) is h = (ms, is, in_table_faults t.at ms ks f h)
-
-object_keys_has : (ks : List Key) (f : Finding) (t : Tree) (inner : List Member) → object_in t ≡ Some inner → BreaksTable t.at inner ks f → In f (object_faults ks t)
-unfolding object_faults
-object_keys_has ks f t inner is breaks =
-    subst (λ (o : Option (List Member)). In f (in_object t.at ks o)) (sym is) (table_faults_has t.at inner ks f breaks)
 
 -- ---- nodes
 

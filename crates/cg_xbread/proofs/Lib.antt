@@ -1,14 +1,11 @@
-mod SeenNames
 mod Heard
 mod Elements
 mod Tests
-mod ListFacts
-mod FirstMembers
 mod NodeNames
 mod KeyFacts
 mod NodeFacts
 mod FirstBroken
-mod Fitting
+mod Ranges
 mod Numbers
 pub mod ValidParts
 pub mod ValidEnds

@@ -11,11 +11,12 @@ use Rattle.cg_hjson.specs.declared.tree.Member.{Member}
 use Rattle.cg_keys.specs.Elements.{elements, items_in}
 use Rattle.cg_keys.specs.Table.{value_at}
 use Rattle.cg_keys.specs.Values.{items_of}
-use Rattle.cg_xbread.specs.Listed.{element_faults_after, ends_faults, first_members, heard, host_elements, is_empty, is_named, lonely_device, lonely_host, node_rules, node_twice, unknown_host}
+use Rattle.cg_keys.specs.Lists.{first_members}
+use Rattle.cg_xbread.specs.Listed.{element_faults_after, ends_faults, heard, host_elements, is_empty, is_named, lonely_device, lonely_host, node_rules, node_twice, unknown_host}
 use Rattle.cg_xbread.specs.Violations as fact
 use Rattle.cg_xbread.specs.Violations.{BreaksNodes, DeviceTwice, DeviceWithoutHost, HostWithoutDevice, NodeTwice, UnknownDevice, UnknownHost}
 use Rattle.cg_xbread.specs.Written.{IsDeviceName, IsHostName, Lists, connections_of, listed, nodes_of, text_of}
-use Rattle.cg_xbread.proofs.FirstMembers.{First, Found, first_is_found, found_is_first}
+use Rattle.cg_keys.proofs.FirstMembers.{First, Found, first_is_found, found_is_first}
 use Rattle.cg_xbread.proofs.Tests.{among_flat_map, among_splits, any_finds, finds_any, flat_map_among, in_middle}
 
 same_bytes : (a b : List ℕ) → bytes_eq a b ≡ true → a ≡ b

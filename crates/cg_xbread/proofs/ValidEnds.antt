@@ -9,12 +9,13 @@ use Rattle.cg_keys.specs.Elements.{elements, items_in}
 use Rattle.cg_keys.specs.Table.{value_at}
 use Rattle.cg_keys.specs.Values.{items_of}
 use Rattle.cg_xbread.specs.Described.{number_of}
-use Rattle.cg_xbread.specs.Listed.{first_members, is_named}
+use Rattle.cg_keys.specs.Lists.{first_members}
+use Rattle.cg_xbread.specs.Listed.{is_named}
 use Rattle.cg_xbread.specs.Violations as fact
 use Rattle.cg_xbread.specs.Violations.{BreaksNodes}
 use Rattle.cg_xbread.specs.Written.{IsDeviceName, connections_of, listed, nodes_of, text_of}
 use Rattle.cg_xbread.specs.declared.written.WrittenNode.{WrittenNode}
-use Rattle.cg_xbread.proofs.FirstMembers.{First, found_is_first, first_is_member}
+use Rattle.cg_keys.proofs.FirstMembers.{First, found_is_first, first_is_member}
 use Rattle.cg_xbread.proofs.NodeFacts.{device_named, named_device}
 use Rattle.cg_xbread.proofs.Numbers.{At, among_at, apart, at_among, numbered, same_at}
 

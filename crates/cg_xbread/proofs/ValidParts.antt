@@ -1,26 +1,26 @@
 -- Of a crossbar that breaks no rule on keys, kinds and names: its names, its clock and its nodes are good.
-use Rattle.std.proofs.Common.{◌≡◌, ℕ, ◌<◌, ◌≤◌, Bool, true, false, List, [], ◌∷◌, map, length, Option, Some, None, inl, inr, refl, sym, ap, subst, arith}
-use Rattle.std.specs.Prelude.{codes, is_some, unwrap_or}
+use Rattle.std.proofs.Common.{◌≡◌, ℕ, ◌≤◌, Bool, true, false, List, [], ◌∷◌, map, length, Some, inl, inr, refl, sym, ap, subst}
+use Rattle.std.specs.Prelude.{codes, unwrap_or}
 use Rattle.std.proofs.lemmas.List.{length-map}
 use Rattle.cg_desc.specs.Crossbar.{IsNodeName, IsShortName, IsValidNode, IsValidRange}
 use Rattle.cg_desc.specs.declared.crossbar.Range.{Range}
 use Rattle.cg_finding.specs.Finding.{Among, Finding, finding}
 use Rattle.cg_hjson.specs.declared.tree.Tree.{Tree}
 use Rattle.cg_hjson.specs.declared.tree.Member.{Member}
-use Rattle.cg_keys.specs.Elements.{elements, items_in}
-use Rattle.cg_keys.specs.Forms.{fits}
+use Rattle.cg_keys.specs.Elements.{elements}
 use Rattle.cg_keys.specs.Lookups.{text_at}
-use Rattle.cg_keys.specs.Table.{needs, may, value_at}
-use Rattle.cg_keys.specs.Values.{items_of, members_of, object_in, or_empty, text_in}
+use Rattle.cg_keys.specs.Table.{needs, may}
+use Rattle.cg_keys.specs.Values.{members_of, object_in, or_empty, text_in}
 use Rattle.cg_keys.specs.declared.forms.Form.TheVariants as form
 use Rattle.cg_xbread.specs.Described.{clock_of, node_of, range_of}
 use Rattle.cg_xbread.specs.Listed.{is_node_name}
 use Rattle.cg_xbread.specs.Tables.{clock_key, crossbar_keys, node_keys}
 use Rattle.cg_xbread.specs.Violations as fact
-use Rattle.cg_xbread.specs.Violations.{BreaksKeys, BreaksNode, TooLong, WrongElement}
+use Rattle.cg_xbread.specs.Violations.{BreaksKeys, BreaksNode}
 use Rattle.cg_xbread.specs.Written.{node_name, written_node}
 use Rattle.cg_xbread.specs.declared.written.WrittenNode.{WrittenNode}
-use Rattle.cg_xbread.proofs.Fitting.{Needed, Whole, fits_row, name_or, name_or_empty, needed_row, text_there, valid_range}
+use Rattle.cg_keys.proofs.Fitting.{are_objects, few_at, Needed, Whole, fits_row, name_or, name_or_empty, needed_row, text_there}
+use Rattle.cg_xbread.proofs.Ranges.{valid_range}
 use Rattle.cg_xbread.proofs.NodeNames.{no_name_of_node, passes_node}
 use Rattle.cg_xbread.proofs.Tests.{in_map}
 
@@ -43,38 +43,6 @@ unfolding clock_of
 clock_good t none =
     name_or_empty (members_of t) (clock_key (members_of t))
     (needed_row t.at (members_of t) (crossbar_keys (members_of t)) (table_whole t none) (needs (clock_key (members_of t)) (form.Name ∷ [])) (inr (inl refl)) refl)
-
--- ---- lists
-
--- a list that is not too long
-few_at : (most : ℕ) (ms : List Member) (key : List ℕ) → ((f : Finding) → ¬ TooLong most ms key f) → length (elements key ms) ≤ most
-unfolding elements
-few_at most ms key none = by (value_at key ms) refl
-  where
-    few : (n : ℕ) → (most < n → ⊥) → n ≤ most
-    few n no_more = omega (arith, no_more)
-
-    by : (v : Option Tree) → value_at key ms ≡ v → length (items_in v) ≤ most
-    by None absent = omega arith
-    by (Some list) there =
-        let no_more : most < length (items_of list) → ⊥ = λ long. none (finding 2 22 list.at key) (record { list = list; there = there; long = long; says = refl }) in
-        few (length (items_of list)) no_more
-
--- the elements of a list are objects
-are_objects : (ms : List Member) (key : List ℕ) → ((f : Finding) → ¬ WrongElement form.Object ms key f) → (element : Tree) → Among element (elements key ms)
-    → (inner : List Member) × (object_in element ≡ Some inner)
-unfolding elements fits
-are_objects ms key none element among = by (value_at key ms) refl among
-  where
-    inside : (o : Option (List Member)) → object_in element ≡ o → (is_some o ≡ false → ⊥) → (inner : List Member) × (object_in element ≡ Some inner)
-    inside None is no_way = absurd (no_way refl)
-    inside (Some inner) is no_way = (inner, is)
-
-    by : (v : Option Tree) → value_at key ms ≡ v → Among element (items_in v) → (inner : List Member) × (object_in element ≡ Some inner)
-    by None absent h = absurd h
-    by (Some list) there h =
-        inside (object_in element) refl
-        (λ unfit. none (finding 2 22 list.at key) (record { list = list; there = there; element = element; among = h; unfit = unfit; says = refl }))
 
 -- ---- nodes
 

@@ -10,6 +10,7 @@ use Rattle.cg_hjson.specs.declared.tree.Member.{Member}
 use Rattle.cg_keys.specs.Duplicates.{duplicate_faults}
 use Rattle.cg_keys.specs.Elements.{each_faults, element_faults, elements, length_faults, list_faults, object_faults}
 use Rattle.cg_keys.specs.Forms.{is_name, name_limit}
+use Rattle.cg_keys.specs.Lists.{first_members}
 use Rattle.cg_keys.specs.Table.{table_faults, value_at, value_faults}
 use Rattle.cg_keys.specs.Values.{items_of, members_of, text_in}
 use Rattle.cg_keys.specs.declared.forms.Form.TheVariants.{Items, Text}
@@ -45,14 +46,6 @@ node_members_faults ms =
 
 unfoldable pub node_faults : Tree → List Finding
 node_faults t = object_faults node_keys t ++ node_members_faults (members_of t)
-
--- the members but for those whose key an earlier one, or one of `before`, is
-unfoldable pub first_members_after : List (List ℕ) → List Member → List Member
-first_members_after before [] = []
-first_members_after before (m ∷ ms) = cond (list_any (bytes_eq m.key) before) (first_members_after before ms) (m ∷ first_members_after (m.key ∷ before) ms)
-
-abbrev pub first_members : List Member → List Member
-first_members ms = first_members_after [] ms
 
 -- 22: a connection is no list, or has an element that is no string
 unfoldable pub connection_faults : Member → List Finding

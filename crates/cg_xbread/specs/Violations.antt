@@ -1,54 +1,19 @@
 -- What a crossbar's description breaks, rule by rule, each as a fact with its place and its name.
-use Rattle.std.specs.Prelude.{◌≡◌, ℕ, ◌<◌, true, false, List, [], ◌∷◌, ◌++◌, length, codes, Some}
+use Rattle.std.specs.Prelude.{◌≡◌, ℕ, true, false, List, [], ◌∷◌, ◌++◌, codes, Some}
 use Rattle.cg_svspec.specs.Names.{Among}
 use Rattle.cg_desc.specs.Crossbar.{IsNodeName}
 use Rattle.cg_desc.specs.declared.place.At.{At}
 use Rattle.cg_finding.specs.Finding.{Finding, finding}
 use Rattle.cg_hjson.specs.declared.tree.Tree.{Tree}
 use Rattle.cg_hjson.specs.declared.tree.Member.{Member}
-use Rattle.cg_keys.specs.Elements.{elements}
-use Rattle.cg_keys.specs.Forms.{fits}
 use Rattle.cg_keys.specs.Table.{value_at}
-use Rattle.cg_keys.specs.Values.{items_of, members_of, object_in, text_in}
+use Rattle.cg_keys.specs.Values.{items_of, members_of, text_in}
+use Rattle.cg_keys.specs.Lists.{InElement, TooLong, WrongElement, WrongForm}
 use Rattle.cg_keys.specs.Violations.{BreaksTable, DuplicateKey}
-use Rattle.cg_keys.specs.declared.forms.Form.{Form}
 use Rattle.cg_keys.specs.declared.forms.Form.TheVariants as form
 use Rattle.cg_xbread.specs.Tables.{crossbar_keys, node_keys, range_keys}
 use Rattle.cg_xbread.specs.Written.{IsDeviceName, IsHostName, Lists, connections_of, listed, nodes_of, text_of}
 use Rattle.cg_xbread.specs.declared.written.WrittenNode.{WrittenNode}
-
--- ---- lists
-
--- 22: an element of the list at a key has not this form; once, at the list
-pub record WrongElement (wanted : Form) (ms : List Member) (key : List ℕ) (f : Finding) : Type 0 where
-  pub list : Tree
-  pub there : value_at key ms ≡ Some list
-  pub element : Tree
-  pub among : Among element (items_of list)
-  pub unfit : fits wanted element ≡ false
-  pub says : f ≡ finding 2 22 list.at key
-
--- 22: the list at a key has more than so many elements; at the list
-pub record TooLong (most : ℕ) (ms : List Member) (key : List ℕ) (f : Finding) : Type 0 where
-  pub list : Tree
-  pub there : value_at key ms ≡ Some list
-  pub long : most < length (items_of list)
-  pub says : f ≡ finding 2 22 list.at key
-
--- 22: the value at a key has not this form; at the value
-pub record WrongForm (wanted : Form) (ms : List Member) (key : List ℕ) (f : Finding) : Type 0 where
-  pub value : Tree
-  pub there : value_at key ms ≡ Some value
-  pub unfit : fits wanted value ≡ false
-  pub says : f ≡ finding 2 22 value.at key
-
--- an element of the list at a key is an object and breaks this
-pub record InElement (Breaks : At → List Member → Finding → Type 0) (ms : List Member) (key : List ℕ) (f : Finding) : Type 0 where
-  pub element : Tree
-  pub among : Among element (elements key ms)
-  pub inner : List Member
-  pub object : object_in element ≡ Some inner
-  pub breaks : Breaks element.at inner f
 
 -- ---- keys, kinds and names
 

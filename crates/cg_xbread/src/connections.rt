@@ -4,32 +4,14 @@ ghost use Rattle.std.specs.Prelude.{◌≡◌, IfOk, map};
 ghost use Rattle.std.specs.List.{flat_map};
 ghost use Rattle.cg_finding.specs.Finding.{first_of};
 ghost use Rattle.cg_finding.specs.Found.{sees};
-ghost use Rattle.cg_xbread.specs.Listed.{connection_faults, first_members};
+ghost use Rattle.cg_keys.specs.Lists.{first_members};
+ghost use Rattle.cg_xbread.specs.Listed.{connection_faults};
 
 use cg_base::Memory;
 use cg_finding::{Found, earlier_of};
 use cg_hjson::Member;
-use cg_keys::{Form, first_in_list, first_in_value};
+use cg_keys::{Form, first_in_list, first_in_value, first_members};
 use std::alloc::Global;
-use std::collections::HashSet;
-
-/// The members of an object but for those whose key an earlier one has.
-///
-/// Each key is looked up once, in a set.
-pub(crate) fn first_members(alloc: Global, members: &[Member]) -> Result<Vec<&Member>, Memory>
-    ensures { IfOk result (λ firsts. map (λ m. m.now) firsts.items ≡ first_members members.now) }
-{
-    let mut seen = HashSet::new(alloc);
-    let mut firsts = Vec::new(alloc);
-    for member in members {
-        let key = member.key.as_str();
-        if !seen.insert(key)? {
-            continue;
-        }
-        firsts.push(member)?;
-    }
-    Ok(firsts)
-}
 
 /// Rule 22 at a connection that is no list, or has an element that is no string.
 #[tactic(auto, unfolding(crate::specs::Listed::connection_faults), using(cg_finding::proofs::Firsts::firsts))]

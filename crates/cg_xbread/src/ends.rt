@@ -10,12 +10,11 @@ ghost use Rattle.cg_keys.specs.Values.{items_of};
 ghost use Rattle.cg_xbread.specs.Listed.{element_faults_after, ends_faults, heard, host_elements, is_named, unknown_host};
 ghost use Rattle.cg_xbread.specs.Written.{text_of};
 
-use crate::connections::first_members;
 use crate::written::{WrittenNode, text_of};
 use cg_base::Memory;
 use cg_finding::{Found, earlier_of};
 use cg_hjson::{Member, Tree};
-use cg_keys::items;
+use cg_keys::{first_members, items};
 use std::alloc::Global;
 use std::collections::HashSet;
 

@@ -2,7 +2,7 @@ use Rattle.std.proofs.Common.{sym, take, ◌∙◌}
 use Rattle.cg_finding.proofs.Loops.{no_more_after, one_more_after}
 use Rattle.cg_xbread.specs.Listed.{element_faults_after}
 use Rattle.cg_xbread.specs.Written.{text_of}
-use Rattle.cg_xbread.proofs.SeenNames.{one_more_name}
+use Rattle.cg_keys.proofs.SeenNames.{one_more_name}
 use Rattle.cg_xbread.proofs.Elements.{element_by_set}
 use Rattle.cg_xbread.proofs.ends.first_in_elements.Goals as goal
 

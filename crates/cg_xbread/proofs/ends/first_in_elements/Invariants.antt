@@ -3,7 +3,7 @@ use Rattle.cg_finding.specs.Finding.{each_after, earlier, first_of}
 use Rattle.cg_finding.specs.Found.{sees}
 use Rattle.cg_xbread.specs.Listed.{element_faults_after}
 use Rattle.cg_xbread.specs.Written.{text_of}
-use Rattle.cg_xbread.proofs.SeenNames.{HasNamesOf}
+use Rattle.cg_keys.proofs.SeenNames.{HasNamesOf}
 use Rattle.cg_xbread.proofs.ends.first_in_elements.Given as goal
 
 -- the names of the elements so far are in the set, and what was found and what is left have the first of all

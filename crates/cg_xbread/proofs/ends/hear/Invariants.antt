@@ -1,6 +1,6 @@
 use Rattle.std.proofs.Common.{◌≡◌, ℕ, ◌||◌, List, drop}
 use Rattle.cg_xbread.proofs.Heard.{lists_name}
-use Rattle.cg_xbread.proofs.SeenNames.{has}
+use Rattle.cg_keys.proofs.SeenNames.{has}
 use Rattle.cg_xbread.proofs.ends.hear.Given as goal
 
 -- a name is in the set or that of an element that is left, exactly where it was there or is that of one of all

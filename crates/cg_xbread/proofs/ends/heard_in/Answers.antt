@@ -1,7 +1,7 @@
 use Rattle.std.proofs.Common.{◌||◌, ap, sym, ◌∙◌}
 use Rattle.cg_xbread.specs.Listed.{host_elements}
 use Rattle.cg_xbread.proofs.Heard.{all_connections, key_known, key_unknown, lists_name, no_element, one_connection}
-use Rattle.cg_xbread.proofs.SeenNames.{has}
+use Rattle.cg_keys.proofs.SeenNames.{has}
 use Rattle.cg_xbread.proofs.ends.heard_in.Goals as goal
 
 pub loop-connection-preserved-then-not-is_named : goal.loop-connection-preserved-then-not-is_named

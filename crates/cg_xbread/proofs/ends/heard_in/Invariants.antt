@@ -2,7 +2,7 @@ use Rattle.std.proofs.Common.{◌≡◌, ℕ, ◌||◌, List, map}
 use Rattle.std.specs.List.{flat_map}
 use Rattle.cg_xbread.specs.Listed.{host_elements}
 use Rattle.cg_xbread.proofs.Heard.{left, lists_name}
-use Rattle.cg_xbread.proofs.SeenNames.{has}
+use Rattle.cg_keys.proofs.SeenNames.{has}
 use Rattle.cg_xbread.proofs.ends.heard_in.Given as goal
 
 -- a name is in the set or listed by a connection that is left, exactly where one of all lists it

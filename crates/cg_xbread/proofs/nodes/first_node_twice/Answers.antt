@@ -1,7 +1,7 @@
 use Rattle.std.proofs.Common.{ap, sym, take, ◌∙◌, not}
 use Rattle.cg_finding.proofs.Loops.{no_more_after, one_more_after}
 use Rattle.cg_xbread.specs.Listed.{node_twice}
-use Rattle.cg_xbread.proofs.SeenNames.{has, one_more_name}
+use Rattle.cg_keys.proofs.SeenNames.{has, one_more_name}
 use Rattle.cg_xbread.proofs.Elements.{node_by_set}
 use Rattle.cg_xbread.proofs.nodes.first_node_twice.Goals as goal
 

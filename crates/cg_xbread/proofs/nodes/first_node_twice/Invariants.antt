@@ -2,7 +2,7 @@ use Rattle.std.proofs.Common.{◌≡◌, [], drop, take}
 use Rattle.cg_finding.specs.Finding.{each_after, earlier, first_of}
 use Rattle.cg_finding.specs.Found.{sees}
 use Rattle.cg_xbread.specs.Listed.{node_twice}
-use Rattle.cg_xbread.proofs.SeenNames.{HasNamesOf}
+use Rattle.cg_keys.proofs.SeenNames.{HasNamesOf}
 use Rattle.cg_xbread.proofs.nodes.first_node_twice.Given as goal
 
 -- the names of the nodes so far are in the set, and what was found and what is left have the first of all

@@ -1,9 +1,9 @@
 -- What stands at the keys of an object that breaks nothing of its table.
-use Rattle.std.proofs.Common.{◌≡◌, ℕ, ◌≤◌, Bool, true, false, ◌&&◌, ◌||◌, nat_le, is_some, List, [], ◌∷◌, Option, Some, None, inl, inr, refl, sym, ap, subst, ◌∙◌, arith}
-use Rattle.std.specs.Prelude.{codes, unwrap_or, option_and_then, if◌then◌else◌}
+use Rattle.std.proofs.Common.{◌≡◌, ℕ, ◌≤◌, Bool, true, false, ◌&&◌, ◌||◌, nat_le, is_some, length, ◌<◌, List, [], ◌∷◌, Option, Some, None, inl, inr, refl, sym, ap, subst, ◌∙◌, arith}
+use Rattle.std.specs.Prelude.{unwrap_or, option_and_then, if◌then◌else◌}
 use Rattle.std.specs.Option.{option_map_or}
 use Rattle.std.proofs.lemmas.Bool.Decides.{nat_tests}
-use Rattle.cg_desc.specs.Crossbar.{IsShortName, IsValidRange}
+use Rattle.cg_desc.specs.Valid.{IsShortName}
 use Rattle.cg_desc.specs.declared.place.At.{At}
 use Rattle.cg_finding.specs.Finding.{Among, Finding, finding}
 use Rattle.cg_hjson.specs.declared.tree.Tree.{Tree}
@@ -11,12 +11,13 @@ use Rattle.cg_hjson.specs.declared.tree.Member.{Member}
 use Rattle.cg_keys.specs.Forms.{fits, fits_one, if_within, is_name, name_limit, number_in, number_within, rule_broken}
 use Rattle.cg_keys.specs.Lookups.{number_at, text_at}
 use Rattle.cg_keys.specs.Table.{Key, value_at}
-use Rattle.cg_keys.specs.Values.{members_of, text_in}
+use Rattle.cg_keys.specs.Elements.{elements, items_in}
+use Rattle.cg_keys.specs.Lists.{TooLong, TooShort, WrongElement}
+use Rattle.cg_keys.specs.Values.{array_in, items_of, object_in, or_empty, text_in}
 use Rattle.cg_keys.specs.Violations.{BreaksTable}
 use Rattle.cg_keys.specs.declared.forms.Form.{Form}
 use Rattle.cg_keys.specs.declared.forms.Form.TheVariants as form
 use Rattle.cg_keys.proofs.NameTests.{is_name_tells}
-use Rattle.cg_xbread.specs.Described.{range_of}
 
 -- nothing of a table is broken
 abbrev pub Whole : At → List Member → List Key → Type 0
@@ -109,7 +110,7 @@ number_most : (least most : ℕ) (o : Option ℕ) → unwrap_or (option_and_then
 number_most least most None = omega arith
 number_most least most (Some n) = within_most least most n
 
-at_most : (least most : ℕ) (v : Option Tree) → unwrap_or (option_and_then (number_within least most) v) 0 ≤ most
+pub at_most : (least most : ℕ) (v : Option Tree) → unwrap_or (option_and_then (number_within least most) v) 0 ≤ most
 unfolding number_within
 at_most least most None = omega arith
 at_most least most (Some t) = number_most least most (number_in t)
@@ -118,10 +119,42 @@ pub number_at_most : (least most : ℕ) (key : List ℕ) (ms : List Member) → 
 unfolding number_at
 number_at_most least most key ms = at_most least most (value_at key ms)
 
--- whatever is written, a range has numbers of their machine words
-pub valid_range : (t : Tree) → IsValidRange (range_of t)
-unfolding range_of
-valid_range t =
-    let base = number_at_most 0 4294967295 (codes "base_addr") (members_of t) in
-    let size = number_at_most 0 4294967296 (codes "size_byte") (members_of t) in
-    (omega arith, omega arith)
+-- ---- lists
+
+few : (n most : ℕ) → (most < n → ⊥) → n ≤ most
+few n most no_more = omega (arith, no_more)
+
+-- a list that is not too long
+pub few_at : (most : ℕ) (ms : List Member) (key : List ℕ) → ((f : Finding) → ¬ TooLong most ms key f) → length (elements key ms) ≤ most
+unfolding elements
+few_at most ms key none = by (value_at key ms) refl
+  where
+    by : (v : Option Tree) → value_at key ms ≡ v → length (items_in v) ≤ most
+    by None absent = omega arith
+    by (Some list) there =
+        let no_more : most < length (items_of list) → ⊥ = λ long. none (finding 2 22 list.at key) (record { list = list; there = there; long = long; says = refl }) in
+        few (length (items_of list)) most no_more
+
+-- a list that is not too short
+pub some_at : (least : ℕ) (ms : List Member) (key : List ℕ) (list : Tree) (items : List Tree) → value_at key ms ≡ Some list → array_in list ≡ Some items
+    → ((f : Finding) → ¬ TooShort least ms key f) → least ≤ length (elements key ms)
+unfolding elements
+some_at least ms key list items there is none =
+    let no_fewer : length items < least → ⊥ = λ short. none (finding 2 22 list.at key) (record { list = list; there = there; items = items; is_list = is; short = short; says = refl }) in
+    subst (λ ts. least ≤ length ts) (sym (ap items_in there ∙ ap or_empty is)) (few least (length items) no_fewer)
+
+-- the elements of a list are objects
+pub are_objects : (ms : List Member) (key : List ℕ) → ((f : Finding) → ¬ WrongElement form.Object ms key f) → (element : Tree) → Among element (elements key ms)
+    → (inner : List Member) × (object_in element ≡ Some inner)
+unfolding elements fits
+are_objects ms key none element among = by (value_at key ms) refl among
+  where
+    inside : (o : Option (List Member)) → object_in element ≡ o → (is_some o ≡ false → ⊥) → (inner : List Member) × (object_in element ≡ Some inner)
+    inside None is no_way = absurd (no_way refl)
+    inside (Some inner) is no_way = (inner, is)
+
+    by : (v : Option Tree) → value_at key ms ≡ v → Among element (items_in v) → (inner : List Member) × (object_in element ≡ Some inner)
+    by None absent h = absurd h
+    by (Some list) there h =
+        inside (object_in element) refl
+        (λ unfit. none (finding 2 22 list.at key) (record { list = list; there = there; element = element; among = h; unfit = unfit; says = refl }))

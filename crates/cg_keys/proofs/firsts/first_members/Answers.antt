@@ -1,8 +1,8 @@
 use Rattle.std.proofs.Common.{◌≡◌, [], ◌∷◌, ◌++◌, List, map, ap, sym, ◌∙◌}
 use Rattle.std.proofs.lemmas.List.{map-append}
 use Rattle.cg_hjson.specs.declared.tree.Member.{Member}
-use Rattle.cg_xbread.proofs.SeenNames.{all_looked, passed, taken}
-use Rattle.cg_xbread.proofs.connections.first_members.Goals as goal
+use Rattle.cg_keys.proofs.SeenNames.{all_looked, passed, taken}
+use Rattle.cg_keys.proofs.firsts.first_members.Goals as goal
 
 pub loop-member-preserved-then-not-branch : goal.loop-member-preserved-then-not-branch
 loop-member-preserved-then-not-branch c =

@@ -7,7 +7,7 @@ use Rattle.std.specs.Cmp.Lexicographic.{nat_list_eq_equiv}
 use Rattle.std.specs.List.{list_any}
 use Rattle.std.specs.Str.{bytes_eq}
 use Rattle.cg_hjson.specs.declared.tree.Member.{Member}
-use Rattle.cg_xbread.specs.Listed.{first_members_after}
+use Rattle.cg_keys.specs.Lists.{first_members_after}
 
 -- borrowed names
 abbrev pub Names : Type 0

@@ -8,7 +8,7 @@ use Rattle.cg_finding.specs.Finding.{Among}
 use Rattle.cg_hjson.specs.declared.tree.Tree.{Tree}
 use Rattle.cg_hjson.specs.declared.tree.Member.{Member}
 use Rattle.cg_keys.specs.Table.{value_at}
-use Rattle.cg_xbread.specs.Listed.{first_members_after}
+use Rattle.cg_keys.specs.Lists.{first_members_after}
 
 abbrev known : List (List ℕ) → List ℕ → Bool
 known before key = list_any (bytes_eq key) before

@@ -1,6 +1,6 @@
 use Rattle.std.proofs.Common.{◌≡◌, ◌++◌, drop, map}
-use Rattle.cg_xbread.specs.Listed.{first_members, first_members_after}
-use Rattle.cg_xbread.proofs.connections.first_members.Given as goal
+use Rattle.cg_keys.specs.Lists.{first_members, first_members_after}
+use Rattle.cg_keys.proofs.firsts.first_members.Given as goal
 
 -- the members so far, and those of the members that are left, behind the keys seen
 abbrev pub invariant-loop-member : goal.invariant-loop-member

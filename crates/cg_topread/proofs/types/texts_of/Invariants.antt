@@ -1,0 +1,6 @@
+use Rattle.std.proofs.Common.{◌≡◌, ◌++◌, drop, map}
+use Rattle.cg_topread.proofs.types.texts_of.Given as goal
+
+-- the texts so far and those of the names that are left are all
+abbrev pub invariant-loop-name : goal.invariant-loop-name
+invariant-loop-name l = l.texts ++ map (λ n. n.now) (drop l.name-index l.names) ≡ map (λ n. n.now) l.names
