@@ -125,8 +125,8 @@ module _ (x : XbarDesc) (fit : AreRangesOf x (written_ranges x)) where
         fit.differ n s.i j s.address (written_for node) s.earlier s.later (node, is, device) entry (subst (λ z. slice_get z s.i ≡ Some s.earlier) written s.earlier_is)
         (subst (λ z. slice_get z j ≡ Some s.later) written s.later_is) s.earlier_holds s.later_holds in
         different s.i j s.order same where
-      different : (i j : ℕ) → i < j → i ≡ j → ⊥
-      different i j less same = omega (arith, less, same)
+          different : (i j : ℕ) → i < j → i ≡ j → ⊥
+          different i j less same = omega (arith, less, same)
 
     -- the device has the address
     here : (a : ℕ) → SomeHolds rs a → HasAddress (written_ranges x) n a
@@ -140,8 +140,8 @@ module _ (x : XbarDesc) (fit : AreRangesOf x (written_ranges x)) where
       let same : s.device ≡ n =
       fit.apart s.host s.device n s.address s.to_earlier s.to_later (here k s.device other.0 s.its_ranges other.1 other.2 s.has s.address s.earlier_holds) (here k n node rs is device has s.address s.later_holds) in
       different s.device n s.order same where
-    different : (i j : ℕ) → i < j → i ≡ j → ⊥
-    different i j less same = omega (arith, less, same)
+        different : (i j : ℕ) → i < j → i ≡ j → ⊥
+        different i j less same = omega (arith, less, same)
 
   pub spaced_unbroken : IsValidCrossbar x → NoViolation (alone x)
   spaced_unbroken valid _ (circle k n xbar node at in_circle) =

@@ -49,7 +49,12 @@ fn text_of(
 }
 
 /// The text of a merged top of one crossbar alone.
-fn output_of(alloc: Global, file: u32, top: &MergedTop, xbar: &XbarDesc) -> Result<OutFile, DescFault>
+fn output_of(
+    alloc: Global,
+    file: u32,
+    top: &MergedTop,
+    xbar: &XbarDesc,
+) -> Result<OutFile, DescFault>
     requires valid { IsValidCrossbar xbar.now }
     requires alone { top.now ≡ alone xbar.now }
     ensures { (f : File) → f.number ≡ file → Describes f xbar.now → FindsAlone result f (λ o. IsOutputOf f o) }
@@ -67,12 +72,7 @@ fn output_of(alloc: Global, file: u32, top: &MergedTop, xbar: &XbarDesc) -> Resu
 /// The text of the crossbar that a file describes and that stands alone, or the first of all that the file breaks.
 ///
 /// `file` is the file's number in the build, and `before` how many bytes the files before it have together.
-pub fn read_alone(
-    alloc: Global,
-    file: u32,
-    before: u64,
-    bytes: &[u8],
-) -> Result<OutFile, DescFault>
+pub fn read_alone(alloc: Global, file: u32, before: u64, bytes: &[u8]) -> Result<OutFile, DescFault>
     ensures { FindsAlone result (some_file file before bytes.now) (λ o. IsOutputOf (some_file file before bytes.now) o) }
 {
     let xbar = match read_crossbar(alloc, file, before, bytes) {
