@@ -5,7 +5,7 @@ mod MoreKeys
 mod NameSets
 mod Order
 mod Picked
-mod Plain
+pub mod Plain
 mod SeenBits
 mod SeenKeys
 pub mod Sound

@@ -42,14 +42,14 @@ use Rattle.cg_blkread.proofs.Sound.Values.{list_has}
 -- ---- kinds
 
 -- a word that has a form is one of the kind's words
-abbrev AreWordsOf : {K : Type 0} → Words → (List ℕ → Option K) → Type 0
+abbrev pub AreWordsOf : {K : Type 0} → Words → (List ℕ → Option K) → Type 0
 AreWordsOf words kinds = (s : List ℕ) → is_one_of words s ≡ is_some (kinds s)
 
-software_words : AreWordsOf Software software
+pub software_words : AreWordsOf Software software
 unfolding is_one_of
 software_words s = refl
 
-hardware_words : AreWordsOf Hardware hardware
+pub hardware_words : AreWordsOf Hardware hardware
 unfolding is_one_of
 hardware_words s = refl
 
@@ -58,7 +58,7 @@ some_or None other h = cc
 some_or (Some k) other h = refl
 
 -- the kind that a value is, which has the form of one
-kind_of_text : {K : Type 0} (words : Words) (kinds : List ℕ → Option K) → AreWordsOf words kinds → (s : Option (List ℕ)) (other : K)
+pub kind_of_text : {K : Type 0} (words : Words) (kinds : List ℕ → Option K) → AreWordsOf words kinds → (s : Option (List ℕ)) (other : K)
     → (option_map_or (is_one_of words) s false || false) ≡ true → option_and_then kinds s ≡ Some (unwrap_or (option_and_then kinds s) other)
 kind_of_text words kinds are None other h = cc
 kind_of_text words kinds are (Some s) other h = some_or (kinds s) other (sym (are s) ∙ or_false (is_one_of words s) h) where

@@ -13,13 +13,14 @@ use Rattle.cg_desc.specs.declared.block.SwAccess.TheVariants.{Nothing}
 use Rattle.cg_desc.specs.declared.block.HwAccess.TheVariants.{Hro}
 use Rattle.cg_finding.specs.Finding.{Among}
 use Rattle.cg_hjson.specs.declared.tree.Tree.{Tree}
-use Rattle.cg_keys.specs.Forms.{hardware, is_name, is_one_of, name_limit, software}
+use Rattle.cg_keys.specs.Forms.{hardware, is_name, name_limit, software}
 use Rattle.cg_keys.specs.Lookups.{hardware_at, software_at, text_at}
 use Rattle.cg_keys.specs.Table.{Key}
 use Rattle.cg_keys.specs.Values.{members_of}
 use Rattle.cg_keys.specs.declared.forms.Form.TheVariants.{Boolean, Name, Word}
 use Rattle.cg_keys.specs.declared.words.Words.{Words}
 use Rattle.cg_keys.specs.declared.words.Words.TheVariants.{Hardware, Software, Unknown}
+use Rattle.cg_blkread.proofs.Plain.{AreWordsOf, hardware_words, kind_of_text, software_words}
 use Rattle.cg_blkread.specs.Bits.{width_of}
 use Rattle.cg_blkread.specs.Described.{field_desc, field_part, no_bits}
 use Rattle.cg_blkread.specs.Keys.{has_other_kind, has_other_width, is_other_than_rw, is_written_by_hardware}
@@ -89,33 +90,12 @@ one_form key (Some e) h = only_form Name e h
 
 -- ---- kinds
 
--- a word that has a form is one of the kind's words
-abbrev AreWordsOf : {K : Type 0} → Words → (List ℕ → Option K) → Type 0
-AreWordsOf words kinds = (s : List ℕ) → is_one_of words s ≡ is_some (kinds s)
-
-software_words : AreWordsOf Software software
-unfolding is_one_of
-software_words s = refl
-
-hardware_words : AreWordsOf Hardware hardware
-unfolding is_one_of
-hardware_words s = refl
-
-some_or : {K : Type 0} (k : Option K) (other : K) → is_some k ≡ true → k ≡ Some (unwrap_or k other)
-some_or None other h = absurd cc
-some_or (Some k) other h = refl
-
--- the kind that a word is, or another
-kind_or : {K : Type 0} (words : Words) (kinds : List ℕ → Option K) → AreWordsOf words kinds → (s : Option (List ℕ)) (other : K) → option_map_or (is_one_of words) s false ≡ true
-    → option_and_then kinds s ≡ Some (unwrap_or (option_and_then kinds s) other)
-kind_or words kinds are None other h = absurd cc
-kind_or words kinds are (Some s) other h = some_or (kinds s) other (sym (are s) ∙ h)
-
+-- the kind that stands at a key, or another
 kind_by : {K : Type 0} (words : Words) (kinds : List ℕ → Option K) → AreWordsOf words kinds → (o : Option Data) (other : K)
     → option_map_or (λ e. fits_told (Word words) e || false) o true ≡ true
     → option_map_or (λ e. option_and_then kinds (as_str e)) o (Some other) ≡ Some (unwrap_or (option_and_then kinds (option_and_then as_str o)) other)
 kind_by words kinds are None other h = refl
-kind_by words kinds are (Some e) other h = kind_or words kinds are (as_str e) other (only_form (Word words) e h)
+kind_by words kinds are (Some e) other h = kind_of_text words kinds are (as_str e) other h
 
 counts_by : {K : Type 0} (words : Words) (kinds : List ℕ → Option K) → AreWordsOf words kinds → (otherwise : K) (key : List ℕ) (register t : Tree)
     → fit_at_told (Word words ∷ []) key (told register) ≡ true → fit_at_told (Word words ∷ []) key (told t) ≡ true
