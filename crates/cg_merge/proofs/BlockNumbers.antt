@@ -1,5 +1,5 @@
 -- The numbers that are found are those of the instances' blocks.
-use Rattle.std.proofs.Common.{◌≡◌, ◌<◌, ◌≤◌, ℕ, List, length, map, Option, Some, None, unwrap_or, refl, sym, ap, subst, ◌∙◌, arith}
+use Rattle.std.proofs.Common.{◌≡◌, ℕ, List, length, map, Option, Some, None, unwrap_or, refl, sym, ap, subst, ◌∙◌}
 use Rattle.std.specs.List.{position, slice_get}
 use Rattle.std.specs.Str.{bytes_eq}
 use Rattle.std.proofs.lemmas.Bool.{false≢true}
@@ -8,7 +8,7 @@ use Rattle.std.proofs.lemmas.Slice.Eq.{bytes_eq-Decides}
 use Rattle.cg_svspec.specs.Names.{Among}
 use Rattle.cg_desc.specs.Ends.{BlockIs, InstanceIs}
 use Rattle.cg_desc.specs.Merged.{AreKinds, design_of}
-use Rattle.cg_desc.specs.Top.{AreItsFiles, AreTypes, Design, type_uses}
+use Rattle.cg_desc.specs.Top.{AreItsFiles, Design, type_uses}
 use Rattle.cg_desc.specs.declared.block.LaidBlock.{LaidBlock}
 use Rattle.cg_desc.specs.declared.top.InstDesc.{InstDesc}
 use Rattle.cg_desc.specs.declared.top.MergedTop.{MergedTop}
