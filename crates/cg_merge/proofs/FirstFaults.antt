@@ -1,6 +1,5 @@
 -- The first fault of several files is the earliest of each one's first.
-use Rattle.std.proofs.Common.{◌≡◌, ◌+◌, ◌<◌, ◌≤◌, ◌⊎◌, ℕ, Bool, true, false, List, length, Option, Some, None, inl, inr, refl, sym, ap, subst, ◌∙◌, arith}
-use Rattle.std.specs.List.{slice_get}
+use Rattle.std.proofs.Common.{◌≡◌, ◌+◌, ◌<◌, ◌≤◌, ◌⊎◌, ℕ, Bool, true, false, length, Option, Some, None, inl, inr, refl, sym, ap, subst, ◌∙◌, arith}
 use Rattle.std.specs.Ordering.{is_gt, ordering_reverse}
 use Rattle.std.specs.declared.cmp.Ordering.{Ordering}
 use Rattle.std.specs.declared.cmp.Ordering.TheVariants.{Less, Equal, Greater}
@@ -9,7 +8,6 @@ use Rattle.std.proofs.lemmas.Cmp.{upto}
 use Rattle.std.proofs.lemmas.Option.{slice_get_within}
 use Rattle.cg_desc.specs.Ends.{CrossbarIs}
 use Rattle.cg_desc.specs.Faults.{Before, fault_cmp}
-use Rattle.cg_desc.specs.Merged.{design_of}
 use Rattle.cg_desc.specs.Top.{Design}
 use Rattle.cg_desc.specs.declared.crossbar.XbarDesc.{XbarDesc}
 use Rattle.cg_desc.specs.declared.fault.Fault.{Fault}
@@ -17,7 +15,6 @@ use Rattle.cg_desc.proofs.FaultOrder.{before_transitive, fault_cmp-Less, fault_c
 use Rattle.cg_desc.proofs.Numbered.{same_item}
 use Rattle.cg_finding.specs.Finding.{Finding, in_file}
 use Rattle.cg_finding.specs.Told.{TellsFirst}
-use Rattle.cg_finding.specs.Violations.{IsFirstFault}
 use Rattle.cg_finding.proofs.Firsts.{first_of_is_first}
 use Rattle.cg_finding.proofs.Told.{none_broken}
 use Rattle.cg_merge.specs.Faults.{KeepsEarlier, TellsFault, fault_of}

@@ -1,24 +1,20 @@
 -- The rules on instances and their bases, as they are tested.
-use Rattle.std.proofs.Common.{◌≡◌, ◌↔◌, ◌+◌, ◌<◌, ◌≤◌, ◌^◌, ◌⊎◌, ℕ, zero, suc, Bool, true, false, cond, List, [], ◌∷◌, take, length, map, Option, Some, None, inl, inr, refl, sym, ap, subst, ◌∙◌, arith}
+use Rattle.std.proofs.Common.{◌≡◌, ◌↔◌, ◌+◌, ◌<◌, ◌≤◌, ◌^◌, ◌⊎◌, ℕ, zero, suc, Bool, true, false, cond, List, [], ◌∷◌, take, length, Option, Some, None, inl, inr, refl, sym, ap, subst, ◌∙◌, arith}
 use Rattle.std.specs.Bool.{Decides}
 use Rattle.std.specs.List.{list_any, slice_get}
 use Rattle.std.specs.Str.{bytes_eq}
 use Rattle.std.proofs.lemmas.Bool.{false≢true, cases_lt}
 use Rattle.std.proofs.lemmas.List.{length-map}
-use Rattle.std.proofs.lemmas.Option.{slice_get_within}
-use Rattle.cg_svspec.specs.Names.{Among}
 use Rattle.cg_svspec.specs.Printable.{AllOf}
-use Rattle.cg_desc.specs.Ends.{InstanceIs, IsOf}
+use Rattle.cg_desc.specs.Ends.{InstanceIs}
 use Rattle.std.specs.Option.{is_some}
 use Rattle.cg_desc.specs.FoundBase.{block_at, block_of}
-use Rattle.cg_desc.specs.Merged.{BaseIs, IsListed, IsValidLaidBlock, design_of}
+use Rattle.cg_desc.specs.Merged.{BaseIs, IsValidLaidBlock, design_of}
 use Rattle.cg_desc.specs.declared.block.LaidBlock.{LaidBlock}
 use Rattle.cg_desc.specs.declared.block.LaidFace.{LaidFace}
 use Rattle.cg_desc.specs.declared.block.FaceDesc.{FaceDesc}
-use Rattle.cg_desc.specs.declared.top.FaceBase.{FaceBase}
 use Rattle.cg_desc.specs.declared.top.InstDesc.{InstDesc}
 use Rattle.cg_desc.specs.declared.top.MergedTop.{MergedTop}
-use Rattle.cg_desc.specs.declared.top.SpaceBase.{SpaceBase}
 use Rattle.cg_desc.proofs.Blocks.{one_of}
 use Rattle.cg_desc.proofs.FoundBases.{block_is, block_there}
 use Rattle.cg_desc.proofs.Numbered.{item_among, item_number}

@@ -6,3 +6,5 @@ mod Partners
 mod Spellings
 mod NodeRules
 mod FirstFaults
+mod BlockNumbers
+mod Fits

@@ -1,13 +1,11 @@
 -- The rules on nodes, as they are tested.
-use Rattle.std.proofs.Common.{◌≡◌, ◌<◌, ◌⊎◌, ℕ, Bool, true, false, not, cond, ◌&&◌, ◌||◌, List, [], take, Option, Some, None, inl, inr, refl, sym, ap, subst, ◌∙◌}
+use Rattle.std.proofs.Common.{◌≡◌, ◌⊎◌, ℕ, Bool, true, false, cond, List, take, Option, Some, None, inl, inr, refl, sym, subst, ◌∙◌}
 use Rattle.std.specs.Bool.{Decides}
 use Rattle.std.specs.List.{list_any, slice_get}
-use Rattle.std.specs.Str.{bytes_eq}
 use Rattle.std.proofs.lemmas.Bool.{false≢true}
 use Rattle.std.proofs.lemmas.Slice.Eq.{bytes_eq-Decides}
 use Rattle.cg_svspec.specs.Links.{spelled}
-use Rattle.cg_desc.specs.Crossbar.{NodeIs}
-use Rattle.cg_desc.specs.Ends.{Joins, NamesFace, NamesHost, NodeOf}
+use Rattle.cg_desc.specs.Ends.{Joins, NamesFace, NamesHost}
 use Rattle.cg_desc.specs.Top.{Design}
 use Rattle.cg_desc.specs.declared.crossbar.NodeDesc.{NodeDesc}
 use Rattle.cg_desc.specs.declared.crossbar.XbarDesc.{XbarDesc}
@@ -16,7 +14,7 @@ use Rattle.cg_finding.specs.Rules as rules
 use Rattle.cg_finding.specs.Told.{TellsFirst}
 use Rattle.cg_finding.proofs.Told.{tells_as, tells_either}
 use Rattle.cg_merge.specs.Checks.{SomeBreaks}
-use Rattle.cg_merge.specs.Nodes.{IsBefore, IsElsewhere, Names, NamesNothing, Repeats, RepeatsIn, SpelledBefore, is_spelled}
+use Rattle.cg_merge.specs.Nodes.{IsElsewhere, Names, NamesNothing, Repeats, RepeatsIn, SpelledBefore, is_spelled}
 use Rattle.cg_merge.specs.Violations.{BreaksCrossbar, BreaksNode}
 use Rattle.cg_merge.proofs.Repeats.{decides_any, decides_as, decides_both, decides_plain}
 use Rattle.cg_merge.proofs.TopRules.{before_is, is_before}

@@ -1,9 +1,8 @@
 -- Which crossbars a node joins, and of which spaces they are, as it is tested.
-use Rattle.std.proofs.Common.{◌≡◌, ◌≢◌, ℕ, Bool, true, false, not, ◌&&◌, List, map, Option, Some, None, refl, sym, ap, subst, ◌∙◌}
+use Rattle.std.proofs.Common.{◌≡◌, ℕ, Bool, true, false, not, ◌&&◌, List, Some, sym, ap, subst, ◌∙◌}
 use Rattle.std.specs.Bool.{Decides}
 use Rattle.std.specs.List.{list_any, slice_get}
 use Rattle.std.specs.Str.{bytes_eq}
-use Rattle.std.proofs.lemmas.Bool.{false≢true}
 use Rattle.std.proofs.lemmas.Slice.Eq.{bytes_eq-Decides}
 use Rattle.cg_svspec.specs.Names.{Among}
 use Rattle.cg_desc.specs.Ends.{CrossbarIs, Joins}
@@ -12,7 +11,7 @@ use Rattle.cg_desc.specs.declared.crossbar.NodeDesc.{NodeDesc}
 use Rattle.cg_desc.specs.declared.crossbar.XbarDesc.{XbarDesc}
 use Rattle.cg_desc.specs.declared.top.XbarUse.{XbarUse}
 use Rattle.cg_desc.proofs.Numbered.{item_among, item_number, one_passes, passes_one, same_item}
-use Rattle.cg_merge.specs.Nodes.{IsElsewhere, agrees, is_partner, joins}
+use Rattle.cg_merge.specs.Nodes.{IsElsewhere, is_partner, joins}
 use Rattle.cg_merge.proofs.Repeats.{decides_any, decides_as, decides_both, decides_direction}
 use Rattle.cg_merge.proofs.TopRules.{decides_not}
 

@@ -1,10 +1,10 @@
 -- Which interface a node names, and which nodes before it name the same, as it is tested.
-use Rattle.std.proofs.Common.{◌≡◌, ◌+◌, ◌<◌, ◌≤◌, ◌⊎◌, ℕ, Bool, true, false, not, eqb, ◌&&◌, ◌||◌, List, take, length, map, Option, Some, None, inl, inr, refl, sym, ap, subst, ◌∙◌, arith}
+use Rattle.std.proofs.Common.{◌≡◌, ◌+◌, ◌<◌, ◌≤◌, ◌⊎◌, ℕ, Bool, true, false, not, eqb, ◌&&◌, ◌||◌, List, length, map, Option, Some, None, inl, inr, refl, sym, ap, subst, ◌∙◌, arith}
 use Rattle.std.specs.Bool.{Decides}
 use Rattle.std.specs.List.{list_any, slice_get}
 use Rattle.std.proofs.lemmas.Bool.{cases_lt, false≢true}
 use Rattle.std.proofs.lemmas.List.{length-map}
-use Rattle.cg_desc.specs.Ends.{InstanceIs, IsOf, Means, NodeOf}
+use Rattle.cg_desc.specs.Ends.{IsOf, Means, NodeOf}
 use Rattle.cg_desc.specs.FoundBase.{block_of, is_meant}
 use Rattle.cg_desc.specs.Merged.{design_of}
 use Rattle.cg_desc.specs.Top.{AreItsFiles, Design}
@@ -16,7 +16,7 @@ use Rattle.cg_desc.specs.declared.crossbar.XbarDesc.{XbarDesc}
 use Rattle.cg_desc.specs.declared.top.InstDesc.{InstDesc}
 use Rattle.cg_desc.specs.declared.top.MergedTop.{MergedTop}
 use Rattle.cg_desc.proofs.Blocks.{one_of}
-use Rattle.cg_desc.proofs.FoundBases.{block_is, block_there}
+use Rattle.cg_desc.proofs.FoundBases.{block_there}
 use Rattle.cg_desc.proofs.InterfaceNames.{meant, means}
 use Rattle.cg_desc.proofs.Numbered.{image_at, image_of, item_at, one_passes, passes_one, same_item}
 use Rattle.cg_merge.specs.Checks.{AreRead}

@@ -5,7 +5,6 @@ use Rattle.std.specs.List.{list_any, slice_get}
 use Rattle.std.specs.Str.{bytes_eq}
 use Rattle.std.proofs.lemmas.Bool.{false≢true}
 use Rattle.std.proofs.lemmas.Slice.Eq.{bytes_eq-Decides}
-use Rattle.cg_svspec.specs.Names.{Among}
 use Rattle.cg_desc.specs.Merged.{IsListed}
 use Rattle.cg_desc.specs.Top.{Design}
 use Rattle.cg_desc.specs.declared.place.At.{At}

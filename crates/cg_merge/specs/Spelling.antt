@@ -1,5 +1,5 @@
 -- How two names are compared by their spellings, byte by byte.
-use Rattle.std.specs.Prelude.{ℕ, Bool, true, false, not, eqb, cond, List, [], ◌∷◌, Option, Some, None}
+use Rattle.std.specs.Prelude.{ℕ, Bool, true, false, eqb, cond, List, [], ◌∷◌, Option, Some, None}
 use Rattle.cg_svspec.specs.Links.{spelled}
 use Rattle.cg_merge.specs.declared.spelling.Rest.{Rest}
 

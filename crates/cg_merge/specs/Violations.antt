@@ -1,5 +1,5 @@
 -- What the files of a top break of the rules on one another: address spaces, names, nodes and bases (OpenTitan Top Generation Tool).
-use Rattle.std.specs.Prelude.{◌≡◌, ◌≢◌, ◌⊎◌, ℕ, ◌<◌, true, false, List, [], length, slice_get, Some}
+use Rattle.std.specs.Prelude.{◌≡◌, ◌≢◌, ◌⊎◌, ℕ, ◌<◌, true, false, [], length, slice_get, Some}
 use Rattle.cg_svspec.specs.Links.{spelled}
 use Rattle.cg_svspec.specs.Names.{Among}
 use Rattle.cg_desc.specs.Bases.{HasBase}

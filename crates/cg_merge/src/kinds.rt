@@ -12,7 +12,9 @@ fn place_of(blocks: &[LaidBlock], kind: &str) -> Option<usize>
     ensures place { result ≡ position (λ block. bytes_eq block.desc.name kind.now) blocks.now }
     ensures within { IfSome result (λ place. place < length blocks.now) }
 {
-    blocks.iter().position(|block| block.desc.name.as_str() == kind)
+    blocks
+        .iter()
+        .position(|block| block.desc.name.as_str() == kind)
 }
 
 /// The number of the first block of a type.
@@ -28,7 +30,11 @@ fn number_of(blocks: &[LaidBlock], kind: &str) -> u32
 }
 
 /// The number of each instance's block.
-pub(crate) fn kinds_of(alloc: Global, insts: &[InstDesc], blocks: &[LaidBlock]) -> Result<List<u32>, Memory>
+pub(crate) fn kinds_of(
+    alloc: Global,
+    insts: &[InstDesc],
+    blocks: &[LaidBlock],
+) -> Result<List<u32>, Memory>
     requires { length blocks.now < 2 ^ 32 }
     ensures { IfOk result (λ kinds. kinds ≡ map (λ inst. number_of blocks.now inst.kind) insts.now) }
 {

@@ -1,9 +1,8 @@
-use Rattle.std.proofs.Common.{rules, length, refl, arith, subst, sym}
+use Rattle.std.proofs.Common.{length, refl}
 use Rattle.std.proofs.lemmas.Option.{slice_get_read}
 use Rattle.cg_desc.specs.Merged.{design_of}
-use Rattle.cg_merge.specs.Faults.{TellsFault}
 use Rattle.cg_merge.specs.Violations.{BreaksCrossbar, BreaksTop}
-use Rattle.cg_merge.proofs.FirstFaults.{InFile, below_all, below_next, below_none, tells_file}
+use Rattle.cg_merge.proofs.FirstFaults.{below_all, below_next, below_none, tells_file}
 use Rattle.cg_merge.proofs.faults.first_fault.Goals as goal
 
 pub loop-number-init : goal.loop-number-init

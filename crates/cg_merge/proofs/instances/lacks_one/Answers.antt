@@ -1,4 +1,4 @@
-use Rattle.std.proofs.Common.{◌<◌, length, refl, sym, ◌∙◌, arith, true, false, not, ap}
+use Rattle.std.proofs.Common.{◌<◌, length, refl, ◌∙◌, arith, not, ap}
 use Rattle.std.proofs.lemmas.Bool.{false≢true}
 use Rattle.cg_desc.specs.Merged.{BaseIs}
 use Rattle.cg_merge.proofs.InstanceRules.{none_is, none_of, one_more_base, some_of}

@@ -1,4 +1,4 @@
-use Rattle.std.proofs.Common.{◌<◌, ◌≤◌, ◌+◌, ℕ, length, refl, sym, ◌∙◌, arith, true, false}
+use Rattle.std.proofs.Common.{ℕ, refl, sym, ◌∙◌, arith, false}
 use Rattle.std.proofs.lemmas.Bool.{false≢true}
 use Rattle.std.proofs.lemmas.Option.{slice_get_within}
 use Rattle.cg_desc.specs.Merged.{design_of}

@@ -1,8 +1,8 @@
-use Rattle.std.proofs.Common.{◌<◌, ◌≤◌, ◌⊎◌, ◌+◌, ℕ, length, inl, inr, sym, subst, ◌∙◌, arith, true, false}
-use Rattle.std.proofs.lemmas.Bool.{cases_lt, false≢true}
+use Rattle.std.proofs.Common.{sym, ◌∙◌, arith}
+use Rattle.std.proofs.lemmas.Bool.{false≢true}
 use Rattle.std.proofs.lemmas.Option.{slice_get_within}
 use Rattle.cg_desc.specs.Merged.{design_of}
-use Rattle.cg_merge.specs.Nodes.{IsBefore, RepeatsIn}
+use Rattle.cg_merge.specs.Nodes.{RepeatsIn}
 use Rattle.cg_merge.proofs.Repeats.{none_more}
 use Rattle.cg_merge.proofs.interfaces.repeats_one.Goals as goal
 

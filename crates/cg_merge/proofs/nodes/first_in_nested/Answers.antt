@@ -1,5 +1,3 @@
-use Rattle.std.proofs.Common.{◌≡◌, not, refl, sym, subst}
-use Rattle.std.specs.Bool.{Decides}
 use Rattle.cg_desc.specs.Merged.{design_of}
 use Rattle.cg_merge.proofs.NodeRules.{tells_nested}
 use Rattle.cg_merge.proofs.Partners.{decides_alone}

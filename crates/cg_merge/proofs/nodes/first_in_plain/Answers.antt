@@ -1,4 +1,4 @@
-use Rattle.std.proofs.Common.{◌≡◌, sym}
+use Rattle.std.proofs.Common.{sym}
 use Rattle.cg_desc.specs.Merged.{design_of}
 use Rattle.cg_merge.proofs.NodeRules.{decides_spelled_before, tells_plain}
 use Rattle.cg_merge.proofs.TopRules.{decides_either}
