@@ -1,4 +1,4 @@
-//! Rows on what blocks and crossbars describe: what is read of them, the items that a block stands for, and its layout.
+//! Rows on what blocks, crossbars and tops describe: what is read of them, the items that a block stands for, and its layout.
 //!
 //! Each call of `Tables::tell` names a table in `data/` and what answers its rows. The answers have no clauses: that they end is proved,
 //! and what the program says is compared with the file `stdout`.
@@ -10,6 +10,7 @@ mod items;
 mod laid;
 mod reading;
 mod stages;
+mod tops;
 
 use cg_base::Memory;
 use cg_table::{Tables, ended};
@@ -26,6 +27,7 @@ fn told<R: Files>(rt: &R, alloc: Global) -> Result<String, Memory> {
     tables.tell("described_blocks.txt", described::answer)?;
     tables.tell("described_entries.txt", described::answer_for_entries)?;
     tables.tell("crossbars.txt", crossbars::answer)?;
+    tables.tell("tops.txt", tops::answer)?;
     tables.tell("items_of_entries.txt", items::answer_for_entries)?;
     tables.tell("items_of_keys.txt", items::answer_for_keys)?;
     tables.tell("laid_entries.txt", laid::rows_of_entries)?;

@@ -1,15 +1,17 @@
-//! A block's description, from its text to its interfaces with their offsets, and a crossbar's.
+//! A block's description, from its text to its interfaces with their offsets, a crossbar's, and a top's.
 
 ghost use Rattle.std.specs.Prelude.{IfOk};
 ghost use Rattle.cg_desc.specs.Crossbar.{IsValidCrossbar};
+ghost use Rattle.cg_desc.specs.Top.{IsValidTop};
 ghost use Rattle.cg_desc.specs.Valid.{IsValidBlock};
 
 use cg_base::{List, Memory};
 use cg_blkread::block;
-use cg_desc::{BlockDesc, DescFault, FaceItems, LaidBlock, XbarDesc, fault_text};
+use cg_desc::{BlockDesc, DescFault, FaceItems, LaidBlock, TopDesc, XbarDesc, fault_text};
 use cg_expand::expand;
 use cg_hjson::{HjsonFault, Tree, read};
 use cg_layout::lay;
+use cg_topread::top as read_top;
 use cg_xbread::xbar;
 use std::alloc::Global;
 
@@ -88,4 +90,13 @@ pub fn crossbar(alloc: Global, document: &str) -> Result<XbarDesc, Stop>
     let tree = tree(alloc, document)?;
     let crossbar = xbar(alloc, &tree, 0)?;
     Ok(crossbar)
+}
+
+/// The description of the top.
+pub fn top(alloc: Global, document: &str) -> Result<TopDesc, Stop>
+    ensures { IfOk result (λ top. IsValidTop top) }
+{
+    let tree = tree(alloc, document)?;
+    let top = read_top(alloc, &tree, 0)?;
+    Ok(top)
 }
