@@ -11,7 +11,7 @@ use std::alloc::Global;
 
 /// The address map of a merged top, in the order of the hosts' crossbars, then the hosts' nodes, then the first addresses.
 ///
-/// A top is refused as by `check`.
+/// A top is refused as by `check`. Not built yet: it answers want of memory, whatever it is given.
 pub fn rows(alloc: Global, top: &MergedTop) -> Result<List<Row>, DescFault>
     requires { IsValidMerged top.now }
     ensures { Answers result top.now (AreRows top.now) }
