@@ -13,6 +13,7 @@
 mod checked;
 mod coverage;
 mod graph;
+mod laws;
 mod links;
 mod lookup;
 mod map;
@@ -27,6 +28,7 @@ mod verdict;
 mod verdicts;
 
 pub use checked::check;
+pub use laws::rows_are_the_map;
 pub use lookup::find;
 pub use map::rows;
 pub use node_ranges::ranges;
