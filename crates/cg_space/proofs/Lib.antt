@@ -14,3 +14,4 @@ pub mod Numbering
 pub mod Checking
 pub mod Spacing
 pub mod Sharing
+pub mod Mapping

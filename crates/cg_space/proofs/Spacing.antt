@@ -28,13 +28,13 @@ pub unbroken_free : (m : MergedTop) → NoViolation m → NoCircle m
 unbroken_free m none = no_circle m (λ f c. none f (subst (λ (g : Fault). Violates m g) (sym c.says) (Violates.circle c.x c.n c.xbar c.node c.device c.circle)))
 
 -- its devices have no bad ranges, and share none
-none_bad : (m : MergedTop) (x n : ℕ) (xbar : XbarDesc) (node : NodeDesc) → NoViolation m → DeviceAt m x n xbar node → ¬ HasBadRanges m x n
+pub none_bad : (m : MergedTop) (x n : ℕ) (xbar : XbarDesc) (node : NodeDesc) → NoViolation m → DeviceAt m x n xbar node → ¬ HasBadRanges m x n
 none_bad m x n xbar node none device bad = none _ (Violates.bad_range x n xbar node (unbroken_free m none) device bad)
 
 none_shared : (m : MergedTop) (x n : ℕ) (xbar : XbarDesc) (node : NodeDesc) → NoViolation m → DeviceAt m x n xbar node → ¬ HasSharedRange m x n xbar
 none_shared m x n xbar node none device shared = none _ (Violates.overlap x n xbar node (unbroken_free m none) device shared)
 
-device_at : (m : MergedTop) (x n : ℕ) → (device : IsDeviceAt m x n) → DeviceAt m x n device.1.crossbar device.0
+pub device_at : (m : MergedTop) (x n : ℕ) → (device : IsDeviceAt m x n) → DeviceAt m x n device.1.crossbar device.0
 device_at m x n device = record { crossbar_is = device.1.crossbar_is; is = device.1.is; is_device = device.2 }
 
 flag_off : (b : Bool) → (b ≡ true → ⊥) → b ≡ false

@@ -3,8 +3,10 @@
 //!
 //! `check` takes a top joined with its blocks and crossbars, or one crossbar alone, and refuses it exactly where crossbars are nested in
 //! a circle, a device has no range or one of a wrong shape, or two ranges share an address for one host; it tells the first of all that
-//! is broken. `ranges` gives the ranges of each device of a crossbar, and `find` looks an address up in the rows of an address map. A nested crossbar's device has the ranges of the devices behind it, at the same addresses, so it is judged by sets of
-//! addresses: such a list could double at each level, and is never written out where ranges are shared.
+//! is broken. `ranges` gives the ranges of each device of a crossbar, and `find` looks an address up in the rows of an address map; by the
+//! law `rows_are_the_map` what it finds there is what the map says. A nested crossbar's device has the ranges of the devices behind it, at
+//! the same addresses, so it is judged by sets of addresses: such a list could double at each level, and is never written out where ranges
+//! are shared.
 //!
 //! Not promised: that memory is found.
 #![tactic(auto)]
@@ -12,6 +14,7 @@
 mod checked;
 mod coverage;
 mod graph;
+mod laws;
 mod links;
 mod lookup;
 mod node_ranges;
@@ -25,6 +28,7 @@ mod verdict;
 mod verdicts;
 
 pub use checked::check;
+pub use laws::rows_are_the_map;
 pub use lookup::find;
 pub use node_ranges::ranges;
 pub use row::{HostId, Row};
