@@ -5,9 +5,9 @@
 //! (`Meaning`), and its runs over many clocks (`Runs`). The laws are the functions below, whose bodies do nothing. One says of
 //! every interface that is laid out, and in whose module no name repeats, that the module has its name and just the ports that the
 //! interface asks for, is well formed, has a valuation for all inputs and states of their widths, has the fields' reset values at
-//! reset, with nothing staged and each phase 0, and takes in every valuation the step of the register block at every address of 32 bits. The other says of whatever acts
-//! so that from reset, over every list of clocks, it has runs, and each is a run of the register block. The last says that a clock can
-//! carry any access, whatever hardware brings in it.
+//! reset, with nothing staged and each phase 0, and takes in every valuation the step of the register block at every address of 32
+//! bits. The other says of whatever acts so that from reset, over every list of clocks, it has runs, and each is a run of the register
+//! block. The last says that a clock can carry any access, whatever hardware brings in it.
 //!
 //! The module is told by tables of its own (which ports a kind of field has, which bytes a write needs, which register is a gate),
 //! and shares none with the block's step, so the law would not hold of a slip in either.

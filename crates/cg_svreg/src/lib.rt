@@ -2,7 +2,7 @@
 //!
 //! `face_module` makes the module of an interface that is laid out, and `reg_module` that of a block's interface under its
 //! own name. Rows are the registers and windows in the order of their offsets, with any kinds of fields, stored or
-//! external, with gates and windows (OpenTitan Register Tool). A module that would declare a name twice is refused, with
+//! external, shadowed registers, gates and windows (OpenTitan Register Tool). A module that would declare a name twice is refused, with
 //! the first such name, exactly where one repeats.
 //!
 //! The module is the one of `cg_regspec`, port by port and entry by entry; each file here makes the lists of one group,
