@@ -8,3 +8,4 @@ mod NodeRules
 mod FirstFaults
 mod BlockNumbers
 mod Fits
+mod NodeEnds

@@ -120,6 +120,16 @@ decides_before d x n xbars nodes before p Q dec =
         let at : slice_get before.crossbar.nodes k ≡ Some node = subst (λ (b : XbarDesc). slice_get b.nodes k ≡ Some node) mine is.is in
         inr (k, node, subst (λ (xs : List NodeDesc). slice_get xs k ≡ Some node) (sym before.own) (is_before before.crossbar.nodes n k node less at), q)
 
+-- ---- an interface as an item of a list
+
+-- a node means an item where it names the interface of its number
+pub decides_item : (m : MergedTop) → AreRead m → (host : Bool) (i : ℕ) (inst : InstDesc) (block : LaidBlock) → IsOf (design_of m) i inst block → {X : Type 0} (v : X → Option (List ℕ)) (xs : List X)
+    → map v xs ≡ interface_names host block → (f : ℕ) (face : X) → slice_get xs f ≡ Some face → (node : NodeDesc)
+    → Decides (is_node_for host inst.name (eqb (length xs) 1) (v face) node) (Names (design_of m) host node i f)
+decides_item m read host i inst block of v xs names f face is node =
+    subst (λ c. Decides (is_node_for host inst.name (eqb c 1) (v face) node) (Names (design_of m) host node i f)) (ap length (sym names) ∙ length-map xs v)
+    (decides_names (design_of m) read.files host i f inst block (v face) of (subst (λ (ns : List (Option (List ℕ))). slice_get ns f ≡ Some (v face)) names (image_at v xs f face is)) node)
+
 -- ---- interfaces that are named again
 
 -- of one direction
@@ -130,16 +140,8 @@ pub decides_again : (m : MergedTop) → AreRead m → (host : Bool) (x n i : ℕ
     → IsOf (design_of m) i inst block → {X : Type 0} (v : X → Option (List ℕ)) (xs : List X) → map v xs ≡ interface_names host block
     → Decides (list_any (λ face. repeats host inst.name (eqb (length xs) 1) xbars nodes node (v face)) xs) (Again (design_of m) host x n node i)
 decides_again m read host x n i xbars nodes before node inst block of {X} v xs names = (there, back) where
-  count : length (interface_names host block) ≡ length xs
-  count = ap length (sym names) ∙ length-map xs v
-
-  at_name : (f : ℕ) (face : X) → slice_get xs f ≡ Some face → slice_get (interface_names host block) f ≡ Some (v face)
-  at_name f face is = subst (λ (ns : List (Option (List ℕ))). slice_get ns f ≡ Some (v face)) names (image_at v xs f face is)
-
   one : (f : ℕ) (face : X) → slice_get xs f ≡ Some face → (other : NodeDesc) → Decides (is_node_for host inst.name (eqb (length xs) 1) (v face) other) (Names (design_of m) host other i f)
-  one f face is other =
-      subst (λ c. Decides (is_node_for host inst.name (eqb c 1) (v face) other) (Names (design_of m) host other i f)) count
-      (decides_names (design_of m) read.files host i f inst block (v face) of (at_name f face is) other)
+  one f face is other = decides_item m read host i inst block of v xs names f face is other
 
   both : (f : ℕ) (face : X) → slice_get xs f ≡ Some face
       → Decides (repeats host inst.name (eqb (length xs) 1) xbars nodes node (v face)) (Names (design_of m) host node i f × SomeBefore (design_of m) x n (λ earlier. Names (design_of m) host earlier i f))
@@ -210,13 +212,8 @@ none_more P n before here i less p = by (cases_lt i n) where
 pub decides_named : (m : MergedTop) → AreRead m → (host : Bool) (i : ℕ) (node : NodeDesc) (inst : InstDesc) (block : LaidBlock) → IsOf (design_of m) i inst block → {X : Type 0} (v : X → Option (List ℕ)) (xs : List X)
     → map v xs ≡ interface_names host block → Decides (list_any (λ face. is_node_for host inst.name (eqb (length xs) 1) (v face) node) xs) ((f : ℕ) × Names (design_of m) host node i f)
 decides_named m read host i node inst block of {X} v xs names = (there, back) where
-  count : length (interface_names host block) ≡ length xs
-  count = ap length (sym names) ∙ length-map xs v
-
   one : (f : ℕ) (face : X) → slice_get xs f ≡ Some face → Decides (is_node_for host inst.name (eqb (length xs) 1) (v face) node) (Names (design_of m) host node i f)
-  one f face is =
-      subst (λ c. Decides (is_node_for host inst.name (eqb c 1) (v face) node) (Names (design_of m) host node i f)) count
-      (decides_names (design_of m) read.files host i f inst block (v face) of (subst (λ (ns : List (Option (List ℕ))). slice_get ns f ≡ Some (v face)) names (image_at v xs f face is)) node)
+  one f face is = decides_item m read host i inst block of v xs names f face is node
 
   there : list_any (λ face. is_node_for host inst.name (eqb (length xs) 1) (v face) node) xs ≡ true → (f : ℕ) × Names (design_of m) host node i f
   there is = let passed = one_passes (λ face. is_node_for host inst.name (eqb (length xs) 1) (v face) node) xs is in (passed.0, (one passed.0 passed.1 passed.2).0 passed.3)

@@ -5,3 +5,4 @@ pub mod Nodes
 pub mod Spelling
 pub mod Faults
 pub mod Kinds
+pub mod NodeEnds

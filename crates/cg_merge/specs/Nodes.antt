@@ -1,5 +1,5 @@
 -- How the rules on nodes are tested: which interface a node means, which nodes stand before it, and which crossbars it joins.
-use Rattle.std.specs.Prelude.{◌≡◌, ◌≢◌, ℕ, ◌<◌, Bool, true, false, not, ◌&&◌, ◌||◌, List, [], slice_get, take, Option, None, Some}
+use Rattle.std.specs.Prelude.{◌≡◌, ◌≢◌, ℕ, ◌<◌, Bool, true, false, not, ◌&&◌, ◌||◌, eqb, List, [], length, position, slice_get, take, Option, None, Some}
 use Rattle.std.specs.List.{list_any}
 use Rattle.std.specs.Str.{bytes_eq}
 use Rattle.cg_svspec.specs.Links.{spelled}
@@ -12,6 +12,7 @@ use Rattle.cg_desc.specs.declared.crossbar.NodeDesc.{NodeDesc}
 use Rattle.cg_desc.specs.declared.crossbar.XbarDesc.{XbarDesc}
 use Rattle.cg_desc.specs.declared.top.InstDesc.{InstDesc}
 use Rattle.cg_desc.specs.declared.top.NodeEnd.{NodeEnd}
+use Rattle.cg_desc.specs.declared.top.NodeEnd.TheVariants.{Face, Host}
 use Rattle.cg_desc.specs.declared.top.XbarUse.{XbarUse}
 use Rattle.cg_merge.specs.Violations.{StandsBefore}
 
@@ -110,6 +111,17 @@ unfoldable pub joins : List ℕ → NodeDesc → XbarDesc → Bool
 joins outer node inner = bytes_eq node.name inner.name && list_any (is_partner outer node) inner.nodes
 
 -- ---- what is found of a node
+
+-- the number of the first interface of this direction, of an instance of a block, that a node names
+abbrev pub interface_of : Bool → InstDesc → LaidBlock → NodeDesc → Option ℕ
+interface_of true inst block node = position (λ face. is_node_for true inst.name (eqb (length block.desc.hosts) 1) face.name node) block.desc.hosts
+interface_of false inst block node = position (λ face. is_node_for false inst.name (eqb (length block.faces) 1) face.name node) block.faces
+
+-- the end at an interface of this direction of instance i, if there is the interface
+abbrev pub end_for : Bool → ℕ → Option ℕ → Option NodeEnd
+end_for host i None = None
+end_for true i (Some f) = Some (Host i f)
+end_for false i (Some f) = Some (Face i f)
 
 -- An instance has no interface that the node names, or it stands for one of them.
 abbrev pub EndsIn : Design → NodeDesc → ℕ → Option NodeEnd → Type 0
