@@ -9,3 +9,4 @@ mod FirstFaults
 mod BlockNumbers
 mod Fits
 mod NodeEnds
+mod OneEnd

@@ -62,7 +62,7 @@ decides_spelled_before d x xbars are node plain =
 
 -- ---- a node that stands for no crossbar
 
-no_nested : {b : Bool} → b ≡ false → b ≡ true → ⊥
+pub no_nested : {b : Bool} → b ≡ false → b ≡ true → ⊥
 no_nested plain nested = false≢true (sym plain ∙ nested)
 
 module _ (d : Design) (x n : ℕ) (node : NodeDesc) (plain : node.xbar ≡ false) where

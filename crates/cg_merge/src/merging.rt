@@ -35,7 +35,7 @@ fn judged(alloc: Global, top: MergedTop) -> Result<MergedTop, DescFault>
 ///
 /// All three are as their readers give them. `DescFault::Fault` is the first rule that the files break on one another: at the earliest
 /// file, then the earliest place, then that of the least number, then that with the least name. `DescFault::Memory` says nothing about
-/// the files, which are dropped with it.
+/// the files, which are dropped with it; it is also the answer where a node names an interface whose number takes more than 32 bits.
 pub fn merge(
     alloc: Global,
     top: TopDesc,
