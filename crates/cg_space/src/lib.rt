@@ -10,10 +10,12 @@
 //! Not promised: that memory is found.
 #![tactic(auto)]
 
+mod behind;
 mod checked;
 mod coverage;
 mod graph;
 mod laws;
+mod leaves;
 mod links;
 mod lookup;
 mod map;
