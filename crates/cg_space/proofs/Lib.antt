@@ -21,3 +21,5 @@ pub mod OneRow
 pub mod HostRows
 pub mod Rising
 pub mod Ranged
+pub mod AllRanged
+pub mod OnePlace

@@ -30,7 +30,7 @@ mod verdict;
 mod verdicts;
 
 pub use checked::check;
-pub use laws::rows_are_the_map;
+pub use laws::{each_address_is_one_place, rows_are_the_map};
 pub use lookup::find;
 pub use map::rows;
 pub use node_ranges::ranges;
