@@ -5,17 +5,17 @@ use Rattle.std.proofs.lemmas.Option.{slice_get_within}
 use Rattle.cg_svspec.specs.Names.{Among}
 use Rattle.cg_space.specs.Inner.Leaves.{Adds, AtPlace, AtSome, Below}
 
-either_part : {X : Type 0} (xs ys : List X) (x : X) → Among x (xs ++ ys) → Among x xs ⊎ Among x ys
+pub either_part : {X : Type 0} (xs ys : List X) (x : X) → Among x (xs ++ ys) → Among x xs ⊎ Among x ys
 either_part [] ys x among = inr among
 either_part (z ∷ xs) ys x (inl is) = inl (inl is)
 either_part (z ∷ xs) ys x (inr among) = elim (either_part xs ys x among) [ inl l ↦ inl (inr l) | inr r ↦ inr r ]
 
-left_part : {X : Type 0} (xs ys : List X) (x : X) → Among x xs → Among x (xs ++ ys)
+pub left_part : {X : Type 0} (xs ys : List X) (x : X) → Among x xs → Among x (xs ++ ys)
 left_part [] ys x among = absurd among
 left_part (z ∷ xs) ys x (inl is) = inl is
 left_part (z ∷ xs) ys x (inr among) = inr (left_part xs ys x among)
 
-right_part : {X : Type 0} (xs ys : List X) (x : X) → Among x ys → Among x (xs ++ ys)
+pub right_part : {X : Type 0} (xs ys : List X) (x : X) → Among x ys → Among x (xs ++ ys)
 right_part [] ys x among = among
 right_part (z ∷ xs) ys x among = inr (right_part xs ys x among)
 
