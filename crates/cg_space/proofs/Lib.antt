@@ -15,3 +15,11 @@ pub mod Checking
 pub mod Spacing
 pub mod Sharing
 pub mod Mapping
+pub mod Growing
+pub mod LaidRows
+pub mod OneRow
+pub mod HostRows
+pub mod Rising
+pub mod Ranged
+pub mod AllRanged
+pub mod OnePlace

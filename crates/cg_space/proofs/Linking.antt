@@ -12,6 +12,7 @@ use Rattle.cg_desc.specs.declared.top.MergedTop.{MergedTop}
 use Rattle.cg_space.specs.Inner.Graph.{AllWithin, HasNoLoop, IsLink, IsReached}
 use Rattle.cg_space.specs.Inner.Sound.{HasNode, IsNestedAt, IsSound}
 use Rattle.cg_space.specs.Inner.Tables.{AreLinks, those}
+use Rattle.cg_space.proofs.Growing.{either_part, left_part, right_part}
 use Rattle.cg_space.proofs.Sound.{one_there, xbar_within}
 
 -- ---- the nodes of one crossbar
@@ -38,20 +39,6 @@ count_there m x d other h is =
 abbrev pub NestsBelow : MergedTop → ℕ → ℕ → ℕ → Type 0
 NestsBelow m x k y = (n : ℕ) × (n < k) × IsNestedAt m x n y
 
-either_end : (xs ys : List ℕ) (y : ℕ) → Among y (xs ++ ys) → Among y xs ⊎ Among y ys
-either_end [] ys y among = inr among
-either_end (x ∷ xs) ys y (inl is) = inl (inl is)
-either_end (x ∷ xs) ys y (inr among) = elim (either_end xs ys y among) [ inl l ↦ inl (inr l) | inr r ↦ inr r ]
-
-left_end : (xs ys : List ℕ) (y : ℕ) → Among y xs → Among y (xs ++ ys)
-left_end [] ys y among = absurd among
-left_end (x ∷ xs) ys y (inl is) = inl is
-left_end (x ∷ xs) ys y (inr among) = inr (left_end xs ys y among)
-
-right_end : (xs ys : List ℕ) (y : ℕ) → Among y ys → Among y (xs ++ ys)
-right_end [] ys y among = among
-right_end (x ∷ xs) ys y among = inr (right_end xs ys y among)
-
 in_those : (found : Option ℕ) (y : ℕ) → Among y (those found) ↔ (found ≡ Some y)
 in_those None y = (λ among. absurd among, λ is. absurd cc)
 in_those (Some z) y = (λ among. elim among [ inl is ↦ ap Some (sym is) | inr none ↦ absurd none ], λ is. let e : z ≡ y = cc in inl (sym e))
@@ -62,17 +49,17 @@ nests_start m x y = (λ among. absurd among, λ below. absurd (omega (arith, bel
 pub nests_more : (m : MergedTop) (x k : ℕ) (old new : List ℕ) (found : Option ℕ) → ((y : ℕ) → (found ≡ Some y) ↔ IsNestedAt m x k y) → new ≡ old ++ those found
     → ((y : ℕ) → Among y old ↔ NestsBelow m x k y) → (y : ℕ) → Among y new ↔ NestsBelow m x (k + 1) y
 nests_more m x k old new found exact is all y = (
-  λ among. elim (either_end old (those found) y (rw is at among)) [
+  λ among. elim (either_part old (those found) y (rw is at among)) [
     | inl l ↦ let below = (all y).0 l in (below.0, omega (arith, below.1), below.2)
     | inr r ↦ (k, omega arith, (exact y).0 ((in_those found y).0 r))
   ],
   λ below. rw is (by_case below (cases_lt below.0 k)),
 ) where
   by_case : (below : NestsBelow m x (k + 1) y) → (below.0 < k) ⊎ (k ≤ below.0) → Among y (old ++ those found)
-  by_case below (inl less) = left_end old (those found) y ((all y).1 (below.0, less, below.2))
+  by_case below (inl less) = left_part old (those found) y ((all y).1 (below.0, less, below.2))
   by_case below (inr more) =
       let same : below.0 ≡ k = omega (arith, more, below.1) in
-      right_end old (those found) y ((in_those found y).1 ((exact y).1 (subst (λ n. IsNestedAt m x n y) same below.2)))
+      right_part old (those found) y ((in_those found y).1 ((exact y).1 (subst (λ n. IsNestedAt m x n y) same below.2)))
 
 pub nests_all : (m : MergedTop) (x k : ℕ) (inner : List ℕ) → ((n : ℕ) → (n < k) ↔ HasNode m x n) → ((y : ℕ) → Among y inner ↔ NestsBelow m x k y)
     → (y : ℕ) → Among y inner ↔ Nests m x y

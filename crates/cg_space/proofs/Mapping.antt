@@ -1,18 +1,16 @@
 -- What rows say of addresses.
-use Rattle.std.proofs.Common.{◌≡◌, ℕ, zero, suc, ◌+◌, ◌-◌, ◌*◌, ◌/◌, ◌<◌, ◌≤◌, List, [], ◌∷◌, ◌⊎◌, inl, inr, Some, slice_get, refl, sym, ap, ◌∙◌, subst, arith}
+use Rattle.std.proofs.Common.{◌≡◌, ℕ, zero, suc, ◌+◌, ◌-◌, ◌/◌, ◌<◌, ◌≤◌, List, [], ◌∷◌, ◌⊎◌, inl, inr, Some, slice_get, refl, sym, ap, subst, arith}
 use Rattle.std.proofs.lemmas.Bool.{cases_lt}
 use Rattle.cg_svspec.specs.Names.{Among}
 use Rattle.cg_svspec.specs.Printable.{AllOf}
-use Rattle.cg_desc.specs.AddressMap.{HoldsFrom, IsPlaceFor, ReachesFace, StandsAt}
+use Rattle.cg_desc.specs.AddressMap.{IsPlaceFor, ReachesFace, StandsAt}
 use Rattle.cg_desc.specs.Laid.{IsLaid, RowFits, RowsFit}
-use Rattle.cg_desc.specs.Merged.{EndAt, FaceAt, IsMerged, IsValidLaidBlock, IsValidMerged, NodeAt}
-use Rattle.cg_desc.specs.Ranges.{IsRange, RangeHolds}
-use Rattle.cg_desc.specs.Reach.{ConnectsAt, HasRanges, IsPlain, Reaches, outside}
+use Rattle.cg_desc.specs.Merged.{EndAt, FaceAt, IsMerged, IsValidLaidBlock, NodeAt}
+use Rattle.cg_desc.specs.Reach.{ConnectsAt, Reaches, outside}
 use Rattle.cg_desc.specs.Target.{aligned, row_end}
 use Rattle.cg_desc.specs.declared.address.Place.{Place}
-use Rattle.cg_desc.specs.declared.address.Place.TheVariants.{Reg as register_at, Word as word_at, Outside as outside_at, Error}
+use Rattle.cg_desc.specs.declared.address.Place.TheVariants.{Reg as register_at, Word as word_at, Outside as outside_at}
 use Rattle.cg_desc.specs.declared.block.Item.TheVariants.{Reg, Window}
-use Rattle.cg_desc.specs.declared.block.LaidBlock.{LaidBlock}
 use Rattle.cg_desc.specs.declared.block.LaidFace.{LaidFace}
 use Rattle.cg_desc.specs.declared.block.LaidRow.{LaidRow}
 use Rattle.cg_desc.specs.declared.block.RegDesc.{RegDesc}
@@ -20,10 +18,9 @@ use Rattle.cg_desc.specs.declared.block.WindowDesc.{WindowDesc}
 use Rattle.cg_desc.specs.declared.crossbar.NodeDesc.{NodeDesc}
 use Rattle.cg_desc.specs.declared.crossbar.Range.{Range}
 use Rattle.cg_desc.specs.declared.top.MergedTop.{MergedTop}
-use Rattle.cg_desc.specs.declared.top.NodeEnd.{NodeEnd}
-use Rattle.cg_desc.specs.declared.top.NodeEnd.TheVariants.{Face, Outside}
+use Rattle.cg_desc.specs.declared.top.NodeEnd.TheVariants.{Outside}
 use Rattle.cg_space.specs.Laws.{RowsAreTheMap}
-use Rattle.cg_space.specs.Rows.{AreRows, IsFound, IsMapHost, IsRow, RowHolds, row_of, with_index}
+use Rattle.cg_space.specs.Rows.{IsFound, IsMapHost, IsRow, RowHolds, row_of, with_index}
 use Rattle.cg_space.specs.Violations.{NoViolation}
 use Rattle.cg_space.specs.Inner.Sound.{IsDeviceAt, IsSound}
 use Rattle.cg_space.specs.declared.row.HostId.{HostId}
@@ -41,7 +38,7 @@ fits_at all low [] k row fit at = absurd cc
 fits_at all low (x ∷ rows) zero row fit at = let same : x ≡ row = cc in subst (RowFits all) same fit.1
 fits_at all low (x ∷ rows) (suc k) row fit at = fits_at all (row_end x) rows k row fit.2 at
 
-row_fits : (m : MergedTop) (i f r : ℕ) (face : LaidFace) (row : LaidRow) → IsMerged m → FaceAt m i f face → slice_get face.rows r ≡ Some row → RowFits face.rows row
+pub row_fits : (m : MergedTop) (i f r : ℕ) (face : LaidFace) (row : LaidRow) → IsMerged m → FaceAt m i f face → slice_get face.rows r ≡ Some row → RowFits face.rows row
 row_fits m i f r face row is at there =
     let laid = all_at IsLaid at.0.faces f face (all_at IsValidLaidBlock m.blocks at.1.0 at.0 is.blocks at.1.2).laid at.2 in
     fits_at face.rows 0 face.rows r row laid.rows there
@@ -65,29 +62,31 @@ window_words m x h i f r base face row w sound reach there item =
 
 -- ---- what is reached is a device, and its ranges have addresses
 
-among_all : (P : ℕ → Type 0) (xs : List ℕ) (x : ℕ) → AllOf P xs → Among x xs → P x
+pub among_all : (P : ℕ → Type 0) (xs : List ℕ) (x : ℕ) → AllOf P xs → Among x xs → P x
 among_all P [] x all among = absurd among
 among_all P (y ∷ ys) x all (inl is) = subst P (sym is) all.0
 among_all P (y ∷ ys) x all (inr among) = among_all P ys x all.1 among
 
-connected : (m : MergedTop) (x h d : ℕ) → IsSound m → ConnectsAt m x h d → IsDeviceAt m x d
+pub connected : (m : MergedTop) (x h d : ℕ) → IsSound m → ConnectsAt m x h d → IsDeviceAt m x d
 connected m x h d sound c = among_all (IsDeviceAt m x) c.host.to d (to_devices m x h c.host sound c.is c.is_host) c.connects
 
-reached_device : (m : MergedTop) (x h z d : ℕ) → IsSound m → Reaches m x h z d → IsDeviceAt m z d
+pub reached_device : (m : MergedTop) (x h z d : ℕ) → IsSound m → Reaches m x h z d → IsDeviceAt m z d
 reached_device m x h z d sound (Reaches.straight e connects stands plain) = connected m x h d sound connects
 reached_device m x h z d sound (Reaches.nested c y k host connects stands inner on) = reached_device m y k z d sound on
 
-some_size : (m : MergedTop) (x h z d : ℕ) (node : NodeDesc) (range : Range) → IsSound m → NoViolation m → Reaches m x h z d → NodeAt m z d node → EndAt m z d Outside
-    → Among range node.ranges → 0 < range.size
-some_size m x h z d node range sound none reaches at stands among = by (cases_lt 0 range.size) where
-  device : IsDeviceAt m z d
-  device = reached_device m x h z d sound reaches
-
+-- a range of a device outside has an address
+pub outside_size : (m : MergedTop) (z d : ℕ) (node : NodeDesc) (range : Range) → NoViolation m → IsDeviceAt m z d → NodeAt m z d node → EndAt m z d Outside → Among range node.ranges
+    → 0 < range.size
+outside_size m z d node range none device at stands among = by (cases_lt 0 range.size) where
   by : (0 < range.size) ⊎ (range.size ≤ 0) → 0 < range.size
   by (inl some) = some
   by (inr empty) =
       absurd (none_bad m z d device.1.crossbar device.0 none (device_at m z d device)
       (node.ranges, outside node at stands, inr (range, among, λ good. omega (arith, empty, four_at_least range good))))
+
+some_size : (m : MergedTop) (x h z d : ℕ) (node : NodeDesc) (range : Range) → IsSound m → NoViolation m → Reaches m x h z d → NodeAt m z d node → EndAt m z d Outside
+    → Among range node.ranges → 0 < range.size
+some_size m x h z d node range sound none reaches at stands among = outside_size m z d node range none (reached_device m x h z d sound reaches) at stands among
 
 -- ---- from rows to places
 

@@ -21,7 +21,7 @@ one_range m sound i f j g a b p q same face base other_face other_base =
     rw (faces, bases) refl
 
 -- the inner host of a nested device
-one_to : (m : MergedTop) → IsSound m → (x y z k l : ℕ) (a b : NodeDesc) → Xbar y ≡ Xbar z → IsInnerHost m x y k a → IsInnerHost m x z l b → (y ≡ z) × (a.to ≡ b.to)
+pub one_to : (m : MergedTop) → IsSound m → (x y z k l : ℕ) (a b : NodeDesc) → Xbar y ≡ Xbar z → IsInnerHost m x y k a → IsInnerHost m x z l b → (y ≡ z) × (a.to ≡ b.to)
 one_to m sound x y z k l a b same p q =
     let e : y ≡ z = cc in
     let p' : IsInnerHost m x z k a = subst (λ c. IsInnerHost m x c k a) e p in

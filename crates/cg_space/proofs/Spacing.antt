@@ -42,11 +42,11 @@ flag_off true not = absurd (not refl)
 flag_off false not = refl
 
 -- what is kept of a device
-record IsClean (m : MergedTop) (x n : ℕ) (c : Coverage) : Type 0 where
-  has : HasRanges m x n c.ranges
-  good : AllOf IsRange c.ranges
+pub record IsClean (m : MergedTop) (x n : ℕ) (c : Coverage) : Type 0 where
+  pub has : HasRanges m x n c.ranges
+  pub good : AllOf IsRange c.ranges
 
-clean : (m : MergedTop) (x n : ℕ) (c : Coverage) → NoViolation m → IsDeviceAt m x n → IsKept m x n c → IsClean m x n c
+pub clean : (m : MergedTop) (x n : ℕ) (c : Coverage) → NoViolation m → IsDeviceAt m x n → IsKept m x n c → IsClean m x n c
 clean m x n c none device kept =
     let at = device_at m x n device in
     let good = flag_off c.is_bad (λ h. none_bad m x n device.1.crossbar device.0 none at (kept.0, kept.1, inr (bad_of kept.0 (kept.2.bad.0 h)))) in
@@ -84,7 +84,7 @@ some_of_list (r ∷ rs) not = tt
 placed : (m : MergedTop) (x n : ℕ) (xbar : XbarDesc) → CrossbarIs (design_of m) x xbar → IsDevice xbar n → IsDeviceAt m x n
 placed m x n xbar is device = (device.0, record { crossbar = xbar; crossbar_is = is; is = device.1 }, device.2)
 
-not_shared_within : (m : MergedTop) (x n i j a : ℕ) (xbar : XbarDesc) (rs : List Range) (r s : Range) → NoViolation m → CrossbarIs (design_of m) x xbar → IsDevice xbar n → HasRanges m x n rs
+pub not_shared_within : (m : MergedTop) (x n i j a : ℕ) (xbar : XbarDesc) (rs : List Range) (r s : Range) → NoViolation m → CrossbarIs (design_of m) x xbar → IsDevice xbar n → HasRanges m x n rs
     → slice_get rs i ≡ Some r → slice_get rs j ≡ Some s → RangeHolds r a → RangeHolds s a → ¬ (i < j)
 not_shared_within m x n i j a xbar rs r s none is device has p q h k less =
     none_shared m x n xbar device.0 none (record { crossbar_is = is; is = device.1; is_device = device.2 }) (
@@ -106,7 +106,7 @@ not_shared_within m x n i j a xbar rs r s none is device has p q h k less =
       ),
     )
 
-not_earlier : (m : MergedTop) (x h d e a : ℕ) (xbar : XbarDesc) (rs ss : List Range) → NoViolation m → CrossbarIs (design_of m) x xbar → IsDevice xbar e → Connects xbar h d → Connects xbar h e
+pub not_earlier : (m : MergedTop) (x h d e a : ℕ) (xbar : XbarDesc) (rs ss : List Range) → NoViolation m → CrossbarIs (design_of m) x xbar → IsDevice xbar e → Connects xbar h d → Connects xbar h e
     → HasRanges m x d rs → HasRanges m x e ss → SomeHolds rs a → SomeHolds ss a → ¬ (d < e)
 not_earlier m x h d e a xbar rs ss none is device to_d to_e has_d has_e p q less =
     none_shared m x e xbar device.0 none (record { crossbar_is = is; is = device.1; is_device = device.2 }) (
@@ -126,7 +126,7 @@ not_earlier m x h d e a xbar rs ss none is device to_d to_e has_d has_e p q less
       }),
     )
 
-alike : (i j : ℕ) → ¬ (i < j) → ¬ (j < i) → i ≡ j
+pub alike : (i j : ℕ) → ¬ (i < j) → ¬ (j < i) → i ≡ j
 alike i j p q = by (cases_lt i j) (cases_lt j i) where
   by : (i < j) ⊎ (j ≤ i) → (j < i) ⊎ (i ≤ j) → i ≡ j
   by (inl less) b = absurd (p less)

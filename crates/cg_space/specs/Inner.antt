@@ -5,3 +5,4 @@ pub mod Coverages
 pub mod Sound
 pub mod Tables
 pub mod Verdicts
+pub mod Leaves

@@ -44,7 +44,7 @@ fn is_inner_host(top: &MergedTop, xbar: usize, node: usize, outer: u32) -> bool
 }
 
 /// The devices to which the host of a crossbar connects that stands for the crossbar `outer`.
-fn inner_to(top: &MergedTop, xbar: usize, outer: u32) -> &[u32]
+pub fn inner_to(top: &MergedTop, xbar: usize, outer: u32) -> &[u32]
     requires sound { IsSound top.now }
     requires there { xbar < length top.now.xbars }
     ensures { (k : ℕ) (host : ANode) → IsInnerHost top.now outer xbar k host → result.now ≡ host.to }
