@@ -12,7 +12,7 @@ ghost use Rattle.cg_gen.specs.Inner.{IsGiven, IsDueFrom, only_file};
 
 use crate::deed::Due;
 use crate::given::Given;
-use crate::told::{fault_due, outputs_due};
+use crate::told::{alone, fault_due, outputs_due};
 use cg_base::{List, Memory};
 use cg_block::{BlockUnit, completed_output, header_output, read_block, register_outputs};
 use cg_desc::DescFault;
@@ -30,15 +30,6 @@ fn unit_of(alloc: Global, given: &Given) -> Result<BlockUnit, DescFault>
         Given::Large => Err(large_file(alloc, 0)),
         Given::Bytes(bytes) => read_block(alloc, 0, 0, bytes.as_slice()),
     }
-}
-
-/// A single output.
-fn alone(alloc: Global, output: OutFile) -> Result<List<OutFile>, Memory>
-    ensures { IfOk result (λ os. AreOutputs (λ o. o ≡ output) os) }
-{
-    let mut outputs = List::new(alloc);
-    outputs.push(output)?;
-    Ok(outputs)
 }
 
 /// The outputs that are asked for.

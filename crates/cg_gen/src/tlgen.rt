@@ -8,8 +8,8 @@ ghost use Rattle.cg_gen.specs.Inner.{IsGiven, IsDueFrom, only_file};
 
 use crate::deed::Due;
 use crate::given::Given;
-use crate::told::{fault_due, outputs_due};
-use cg_base::{List, Memory};
+use crate::told::{alone, fault_due, outputs_due};
+use cg_base::Memory;
 use cg_crossbar::read_alone;
 use cg_desc::DescFault;
 use cg_files::{absent_file, large_file};
@@ -33,8 +33,7 @@ pub fn tlgen_due(alloc: Global, file: &str, dir: &str, given: &Given) -> Result<
 {
     match text_of(alloc, given) {
         Ok(text) => {
-            let mut outputs = List::new(alloc);
-            outputs.push(text)?;
+            let outputs = alone(alloc, text)?;
             outputs_due(alloc, dir, outputs)
         }
         Err(DescFault::Fault(fault)) => fault_due(alloc, file, &fault),

@@ -2,6 +2,7 @@
 
 ghost use Rattle.std.specs.Prelude.{◌≡◌, map, length, IfOk};
 ghost use Rattle.cg_desc.specs.FaultText.{fault_line};
+ghost use Rattle.cg_outputs.specs.Outputs.{AreOutputs};
 ghost use Rattle.cg_gen.specs.declared.deed.Status.TheVariants.{Refused};
 ghost use Rattle.cg_gen.specs.OneFile.{stored_name};
 ghost use Rattle.cg_gen.specs.Due.{line, usage, built_line, write_of, due_of_line, due_of_outputs, due_of_no_command};
@@ -87,6 +88,16 @@ fn writes(alloc: Global, dir: &str, outputs: List<OutFile>) -> Result<List<Deed>
         deeds.push(write_of(alloc, dir, output)?)?;
     }
     Ok(deeds)
+}
+
+/// A single output.
+#[tactic(auto, using(crate::proofs::OneFile::alone_are))]
+pub fn alone(alloc: Global, output: OutFile) -> Result<List<OutFile>, Memory>
+    ensures { IfOk result (λ os. AreOutputs (λ o. o ≡ output) os) }
+{
+    let mut outputs = List::new(alloc);
+    outputs.push(output)?;
+    Ok(outputs)
 }
 
 /// The outputs are to be written, and then their number told.

@@ -4,7 +4,7 @@ use Rattle.cg_gen.proofs.plan.plan.Goals as goal
 -- the words are a command that is not built
 pub returns-in-Ok-Topgen-clause-ends : goal.returns-in-Ok-Topgen-clause-ends
 returns-in-Ok-Topgen-clause-ends g c =
-    usage_ends _ _ _ _ c.usage-in-Ok-Topgen.result (not_built _ _ (rw c.in-Ok-Topgen.field-0-is at c.in-Ok-Topgen.ensures) (λ built. built)) c.usage-in-Ok-Topgen.ensures.due c.usage-in-Ok-Topgen.ensures.memory
+    usage_ends _ _ _ _ c.usage.result (not_built _ _ (rw c.in-Ok-Topgen.field-0-is at c.in-Ok-Topgen.ensures) (λ built. built)) c.usage.ensures.due c.usage.ensures.memory
 
 pub returns-in-Ok-Session-clause-ends : goal.returns-in-Ok-Session-clause-ends
 returns-in-Ok-Session-clause-ends g c =
