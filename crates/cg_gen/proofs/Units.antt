@@ -1,5 +1,5 @@
 -- The files of blocks and of crossbars, as what a command reads.
-use Rattle.std.proofs.Common.{◌≡◌, ℕ, List, Some, ap, ◌∙◌}
+use Rattle.std.proofs.Common.{◌≡◌, ℕ, List, Some, subst}
 use Rattle.cg_desc.specs.declared.crossbar.XbarDesc.{XbarDesc}
 use Rattle.cg_desc.specs.declared.fault.DescFault.{DescFault}
 use Rattle.cg_finding.specs.Finding.{Finding}
@@ -9,7 +9,10 @@ use Rattle.cg_block.specs.Breaks.{BreaksBlock}
 use Rattle.cg_block.proofs.Once as block
 use Rattle.cg_crossbar.specs.Breaks.{BreaksAlone, IsGoodFile as GoodCrossbar}
 use Rattle.cg_crossbar.proofs.FirstOnes.{file_first, description_first}
+use Rattle.cg_outputs.specs.declared.out_file.OutFile.{OutFile}
+use Rattle.cg_outputs.specs.Outputs.{AreOutputs}
 use Rattle.cg_gen.specs.Regtool.{Block, Describes}
+use Rattle.cg_gen.specs.Tlgen.{text_of, IsAskedFor}
 
 -- ---- blocks
 
@@ -32,3 +35,7 @@ crossbar_given file x is = (is.describes.has_tree.bytes, is.describes.has_tree.t
 -- what a file breaks before it has a tree is the first of all that it breaks
 pub crossbar_file_first : (file : File) (e : DescFault) → RefusesFirst e file.number (BreaksFile file) → RefusesFirst e file.number (BreaksAlone file)
 crossbar_file_first file e refuses = description_first file e (file_first file e refuses)
+
+-- its text is what is asked for of it
+pub text_is_asked_for : (x : XbarDesc) (text : OutFile) (os : List OutFile) → text ≡ text_of x → AreOutputs (λ o. o ≡ text) os → AreOutputs (IsAskedFor x) os
+text_is_asked_for x text os is are = subst (λ t. AreOutputs (λ o. o ≡ t) os) is are

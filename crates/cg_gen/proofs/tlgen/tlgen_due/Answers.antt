@@ -1,6 +1,5 @@
-use Rattle.std.proofs.Common.{◌≡◌, [], ◌∷◌, subst}
+use Rattle.std.proofs.Common.{[], ◌∷◌}
 use Rattle.cg_words.specs.declared.command.Command.TheVariants.{Tlgen}
-use Rattle.cg_outputs.specs.Outputs.{AreOutputs}
 use Rattle.cg_crossbar.specs.Breaks.{BreaksAlone, IsGoodFile}
 use Rattle.cg_crossbar.proofs.Once.{good_unbroken, good_one}
 use Rattle.cg_gen.specs.Reads.{read}
@@ -8,15 +7,15 @@ use Rattle.cg_gen.specs.Inner.{IsDueFrom}
 use Rattle.cg_gen.specs.Tlgen.{IsAskedFor}
 use Rattle.cg_gen.proofs.OneFile.{fault_told, outputs_told}
 use Rattle.cg_gen.proofs.Planning.{if_ok}
+use Rattle.cg_gen.proofs.Units.{text_is_asked_for}
 use Rattle.cg_gen.proofs.tlgen.tlgen_due.Goals as goal
 
 -- nothing is broken
 pub returns-in_ok-outputs-in-Ok : goal.returns-in_ok-outputs-in-Ok
 returns-in_ok-outputs-in-Ok c g given =
     let out = c.in-Ok.ensures g given in
-    let are = subst (λ text. AreOutputs (λ o. o ≡ text) c.in_ok-outputs-in-Ok.field-0) out.is c.in_ok-outputs-in-Ok.ensures in
     if_ok _ (λ due. IsDueFrom (Tlgen c.args.file.now c.args.dir.now) (read c.args.file.now g ∷ []) due) c.outputs_due.result
-    (λ d told. outputs_told BreaksAlone IsGoodFile IsAskedFor good_unbroken good_one _ _ g out.crossbar _ d out.is_good are told) c.outputs_due.ensures
+    (λ d told. outputs_told BreaksAlone IsGoodFile IsAskedFor good_unbroken good_one _ _ g out.crossbar _ d out.is_good (text_is_asked_for _ _ _ out.is c.in_ok-outputs-in-Ok.ensures) told) c.outputs_due.ensures
 
 -- the first fault is told
 pub returns-in-Err-Fault : goal.returns-in-Err-Fault
