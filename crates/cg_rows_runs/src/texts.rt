@@ -48,7 +48,7 @@ pub fn of_crossbar<R: Threads + Sync>(
     let words = "tlgen -t x.hjson -o out";
     let ran = ran_over(rt, alloc, words, "x.hjson", description.as_bytes())?;
     match ran.store.file(name) {
-        Some(bytes) => String::from_utf8_lossy(alloc, bytes),
+        Some(bytes) => Ok(String::from_utf8_lossy(alloc, bytes)?),
         None => spelled(alloc, &ran),
     }
 }
