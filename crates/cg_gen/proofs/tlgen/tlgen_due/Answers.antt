@@ -22,4 +22,4 @@ pub returns-in-Err-Fault : goal.returns-in-Err-Fault
 returns-in-Err-Fault c g given =
     if_ok _ (λ due. IsDueFrom (Tlgen c.args.file.now c.args.dir.now) (read c.args.file.now g ∷ []) due) c.fault_due.result
     (λ d told. fault_told BreaksAlone IsGoodFile IsAskedFor _ _ g c.in-Err-Fault.fault _ d c.in-Err-Fault.field-0-is (c.in-Err-Fault.ensures g given) told)
-    (rw c.in-Err-Fault.field-0-is at c.fault_due.ensures)
+    c.fault_due.ensures
