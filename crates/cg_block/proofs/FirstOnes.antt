@@ -1,13 +1,11 @@
 -- What a stage finds first is what the whole file breaks first.
 use Rattle.std.proofs.Common.{◌≡◌, ℕ, List, Some, Result, Ok, Err, IfOk, map, sym, ◌∙◌, ap, subst}
-use Rattle.cg_desc.specs.Faults.{Before}
-use Rattle.cg_desc.proofs.FaultOrder.{before_irreflexive}
 use Rattle.cg_desc.specs.declared.block.BlockDesc.{BlockDesc}
 use Rattle.cg_desc.specs.declared.block.LaidBlock.{LaidBlock}
 use Rattle.cg_desc.specs.declared.fault.DescFault.{DescFault}
-use Rattle.cg_desc.specs.declared.fault.DescFault.TheVariants.{Fault, Memory}
-use Rattle.cg_finding.specs.Finding.{Finding, finding, in_file}
+use Rattle.cg_finding.specs.Finding.{Finding, finding}
 use Rattle.cg_finding.specs.Violations.{IsFirstViolation, RefusesFirst}
+use Rattle.cg_finding.proofs.Stages.{lifted, only_first}
 use Rattle.cg_hjson.specs.declared.tree.Tree.{Tree}
 use Rattle.cg_blkread.specs.Described.{block_of}
 use Rattle.cg_blkread.specs.Reads.{Violates as BreaksKeysOrValues}
@@ -24,52 +22,55 @@ use Rattle.cg_regspec.specs.RegisterModule.{modules_of}
 use Rattle.cg_hdrspec.specs.BlockHeader.{header_text}
 use Rattle.cg_block.specs.declared.unit.BlockUnit.{BlockUnit}
 use Rattle.cg_block.specs.Unit.{IsUnitOf}
-use Rattle.cg_block.specs.Breaks.{IsGoodBlock, BreaksTree, BreaksBlock, keys_or_values, names_or_counts, offsets_or_gates, clash, of_file, of_tree, FindsInTree, FindsInFile}
-
--- where some of these is broken, all that is broken is of them: so their first is the first of all
-pub lifted : (V W : Finding → Type 0) (e : DescFault) (number : ℕ) → ((f : Finding) → V f → W f) → ((f g : Finding) → V f → W g → V g) → RefusesFirst e number V → RefusesFirst e number W
-lifted V W (Fault fault) number up down (f, is, first) =
-    (f, is, record { violates = up f first.violates; least = λ file g broken. first.least file g (down f g first.violates broken) })
-lifted V W Memory number up down none = tt
+use Rattle.cg_block.specs.Breaks.{IsGoodBlock, BreaksLayout, BreaksTree, BreaksBlock, keys_or_values, names_or_counts, offsets_or_gates, up_to_layout, clash, of_file, of_tree, FindsLayout, FindsInTree, FindsInFile}
 
 module _ (number : ℕ) (t : Tree) where
-  keys_alone : (f g : Finding) → BreaksKeysOrValues t f → BreaksTree number t g → BreaksKeysOrValues t g
+  keys_alone : (f g : Finding) → BreaksKeysOrValues t f → BreaksLayout number t g → BreaksKeysOrValues t g
   keys_alone f _ broken (keys_or_values also) = also
   keys_alone f _ broken (names_or_counts is also) = absurd (is f broken)
   keys_alone f _ broken (offsets_or_gates has also) = absurd (has.block f broken)
-  keys_alone f _ broken (clash laid is also) = absurd (is.items.block f broken)
 
-  pub keys_first : (e : DescFault) → RefusesFirst e number (BreaksKeysOrValues t) → RefusesFirst e number (BreaksTree number t)
-  keys_first e refuses = lifted (BreaksKeysOrValues t) (BreaksTree number t) e number (λ f broken. keys_or_values broken) keys_alone refuses
+  pub keys_first : (e : DescFault) → RefusesFirst e number (BreaksKeysOrValues t) → RefusesFirst e number (BreaksLayout number t)
+  keys_first e refuses = lifted (BreaksKeysOrValues t) (BreaksLayout number t) e number (λ f broken. keys_or_values broken) keys_alone refuses
 
-  names_alone : IsBlock t → (f g : Finding) → BreaksNamesOrCounts (block_of number t) f → BreaksTree number t g → BreaksNamesOrCounts (block_of number t) g
+  names_alone : IsBlock t → (f g : Finding) → BreaksNamesOrCounts (block_of number t) f → BreaksLayout number t g → BreaksNamesOrCounts (block_of number t) g
   names_alone is f _ broken (keys_or_values also) = absurd (is _ also)
   names_alone is f _ broken (names_or_counts is' also) = also
   names_alone is f _ broken (offsets_or_gates has also) = absurd (has.sound f broken)
-  names_alone is f _ broken (clash laid has also) = absurd (has.items.sound f broken)
 
-  pub names_first : IsBlock t → (e : DescFault) → RefusesFirst e number (BreaksNamesOrCounts (block_of number t)) → RefusesFirst e number (BreaksTree number t)
+  pub names_first : IsBlock t → (e : DescFault) → RefusesFirst e number (BreaksNamesOrCounts (block_of number t)) → RefusesFirst e number (BreaksLayout number t)
   names_first is e refuses =
-      lifted (BreaksNamesOrCounts (block_of number t)) (BreaksTree number t) e number (λ f broken. names_or_counts is broken) (names_alone is) refuses
+      lifted (BreaksNamesOrCounts (block_of number t)) (BreaksLayout number t) e number (λ f broken. names_or_counts is broken) (names_alone is) refuses
 
-  offsets_alone : HasItems number t → (f g : Finding) → BreaksOffsetsOrGates (block_of number t) f → BreaksTree number t g → BreaksOffsetsOrGates (block_of number t) g
+  offsets_alone : HasItems number t → (f g : Finding) → BreaksOffsetsOrGates (block_of number t) f → BreaksLayout number t g → BreaksOffsetsOrGates (block_of number t) g
   offsets_alone has f _ broken (keys_or_values also) = absurd (has.block _ also)
   offsets_alone has f _ broken (names_or_counts is also) = absurd (has.sound _ also)
   offsets_alone has f _ broken (offsets_or_gates has' also) = also
-  offsets_alone has f _ broken (clash laid is also) = absurd (is.sound f broken)
 
-  pub offsets_first : HasItems number t → (e : DescFault) → RefusesFirst e number (BreaksOffsetsOrGates (block_of number t)) → RefusesFirst e number (BreaksTree number t)
+  pub offsets_first : HasItems number t → (e : DescFault) → RefusesFirst e number (BreaksOffsetsOrGates (block_of number t)) → RefusesFirst e number (BreaksLayout number t)
   offsets_first has e refuses =
-      lifted (BreaksOffsetsOrGates (block_of number t)) (BreaksTree number t) e number (λ f broken. offsets_or_gates has broken) (offsets_alone has) refuses
+      lifted (BreaksOffsetsOrGates (block_of number t)) (BreaksLayout number t) e number (λ f broken. offsets_or_gates has broken) (offsets_alone has) refuses
+
+  -- a tree that is laid out breaks nothing up to there
+  pub laid_unbroken : (laid : LaidBlock) (f : Finding) → IsLaidOutAs number t laid → ¬ BreaksLayout number t f
+  laid_unbroken laid f is (keys_or_values also) = is.items.block f also
+  laid_unbroken laid f is (names_or_counts is' also) = is.items.sound f also
+  laid_unbroken laid f is (offsets_or_gates has also) = is.sound f also
+
+  layout_alone : (f g : Finding) → BreaksLayout number t f → BreaksTree number t g → BreaksLayout number t g
+  layout_alone f _ broken (up_to_layout also) = also
+  layout_alone f _ broken (clash laid is also) = absurd (laid_unbroken laid f is broken)
+
+  -- what breaks the layout first breaks the tree first
+  pub layout_first : (e : DescFault) → RefusesFirst e number (BreaksLayout number t) → RefusesFirst e number (BreaksTree number t)
+  layout_first e refuses = lifted (BreaksLayout number t) (BreaksTree number t) e number (λ f broken. up_to_layout broken) layout_alone refuses
 
   -- a tree has one layout
   pub one_layout : (a b : LaidBlock) → IsLaidOutAs number t a → IsLaidOutAs number t b → a ≡ b
   one_layout a b is also = laid_once (block_of number t) a b is.is_laid also.is_laid
 
   clash_alone : (laid : LaidBlock) (told : List ℕ) → IsLaidOutAs number t laid → clash_of laid ≡ Some told → (g : Finding) → BreaksTree number t g → g ≡ finding 12 70 t.at told
-  clash_alone laid told is comes _ (keys_or_values {f} also) = absurd (is.items.block f also)
-  clash_alone laid told is comes _ (names_or_counts {f} is' also) = absurd (is.items.sound f also)
-  clash_alone laid told is comes _ (offsets_or_gates {f} has also) = absurd (is.sound f also)
+  clash_alone laid told is comes _ (up_to_layout {f} also) = absurd (laid_unbroken laid f is also)
   clash_alone laid told is comes _ (clash {name} laid' is' also) =
       let e : Some name ≡ Some told = sym also ∙ ap clash_of (one_layout laid' laid is' is) ∙ comes in
       let same : name ≡ told = cc in
@@ -77,23 +78,19 @@ module _ (number : ℕ) (t : Tree) where
 
   -- a name that comes twice is told
   pub clash_first : (laid : LaidBlock) (name : List ℕ) → IsLaidOutAs number t laid → clash_of laid ≡ Some name → IsFirstViolation (BreaksTree number t) (finding 12 70 t.at name)
-  clash_first laid name is comes = record {
-    violates = clash laid is comes;
-    least = λ file g broken before. before_irreflexive (in_file file (finding 12 70 t.at name))
-        (subst (λ h. Before (in_file file h) (in_file file (finding 12 70 t.at name))) (clash_alone laid name is comes g broken) before);
-  }
+  clash_first laid name is comes = only_first (BreaksTree number t) _ (clash laid is comes) (clash_alone laid name is comes)
 
 -- ---- from the description to the tree
 
 -- the block's items laid out, or the first fault of their offsets and gates
-pub laid_found : (number : ℕ) (t : Tree) (r : Result LaidBlock DescFault) → HasItems number t → Lays r (block_of number t) → FindsInTree r number t (λ laid. IsLaidOutAs number t laid)
+pub laid_found : (number : ℕ) (t : Tree) (r : Result LaidBlock DescFault) → HasItems number t → Lays r (block_of number t) → FindsLayout r number t (λ laid. IsLaidOutAs number t laid)
 unfolding block_of
 laid_found number t (Ok laid) has (none, is) = record { items = has; sound = none; is_laid = is }
 laid_found number t (Err e) has refuses = offsets_first number t has e refuses
 
 -- the first fault of the names and counts of the block's items
 pub items_refused : (number : ℕ) (t : Tree) (e : DescFault) (b : BlockDesc) → IsBlock t → b ≡ block_of number t → RefusesFirst e b.file (BreaksNamesOrCounts b)
-    → RefusesFirst e number (BreaksTree number t)
+    → RefusesFirst e number (BreaksLayout number t)
 unfolding block_of
 items_refused number t e b is same refuses = names_first number t is e (subst (λ (d : BlockDesc). RefusesFirst e d.file (BreaksNamesOrCounts d)) same refuses)
 

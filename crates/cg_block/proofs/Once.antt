@@ -6,14 +6,12 @@ use Rattle.cg_hjson.specs.declared.tree.Tree.{Tree}
 use Rattle.cg_files.proofs.OneTree.{same_tree, unbroken}
 use Rattle.cg_block.specs.Stages.{IsLaidOutAs}
 use Rattle.cg_block.specs.Outputs.{clash_of}
-use Rattle.cg_block.specs.Breaks.{BreaksTree, IsGoodBlock, keys_or_values, names_or_counts, offsets_or_gates, clash, of_file, of_tree}
+use Rattle.cg_block.specs.Breaks.{BreaksTree, IsGoodBlock, up_to_layout, clash, of_file, of_tree}
 use Rattle.cg_block.specs.Laws.{GoodFileBreaksNothing, GoodFileIsOne}
-use Rattle.cg_block.proofs.FirstOnes.{one_layout}
+use Rattle.cg_block.proofs.FirstOnes.{laid_unbroken, one_layout}
 
 pub good_tree_unbroken : (number : ℕ) (t : Tree) (laid : LaidBlock) (f : Finding) → IsGoodBlock number t laid → ¬ BreaksTree number t f
-good_tree_unbroken number t laid _ good (keys_or_values {f} broken) = good.laid_out.items.block f broken
-good_tree_unbroken number t laid _ good (names_or_counts {f} is broken) = good.laid_out.items.sound f broken
-good_tree_unbroken number t laid _ good (offsets_or_gates {f} has broken) = good.laid_out.sound f broken
+good_tree_unbroken number t laid _ good (up_to_layout {f} broken) = laid_unbroken number t laid f good.laid_out broken
 good_tree_unbroken number t laid _ good (clash {name} other is comes) =
     let e : Some name ≡ None = sym comes ∙ ap clash_of (one_layout number t other laid is good.laid_out) ∙ good.no_clash in cc
 

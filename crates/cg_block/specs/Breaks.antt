@@ -14,11 +14,15 @@ use Rattle.cg_files.specs.Files.{File, HasTree, BreaksFile}
 use Rattle.cg_block.specs.Stages.{IsBlock, HasItems, IsLaidOutAs}
 use Rattle.cg_block.specs.Outputs.{clash_of}
 
--- what the tree of a block breaks, in the file of this number
+-- what the tree of a block breaks up to its layout, in the file of this number
+pub data BreaksLayout (number : ℕ) (t : Tree) : Finding → Type 0 where
+  keys_or_values : {f : Finding} → BreaksKeysOrValues t f → BreaksLayout number t f
+  names_or_counts : {f : Finding} → IsBlock t → BreaksNamesOrCounts (block_of number t) f → BreaksLayout number t f
+  offsets_or_gates : {f : Finding} → HasItems number t → BreaksOffsetsOrGates (block_of number t) f → BreaksLayout number t f
+
+-- what it breaks in all
 pub data BreaksTree (number : ℕ) (t : Tree) : Finding → Type 0 where
-  keys_or_values : {f : Finding} → BreaksKeysOrValues t f → BreaksTree number t f
-  names_or_counts : {f : Finding} → IsBlock t → BreaksNamesOrCounts (block_of number t) f → BreaksTree number t f
-  offsets_or_gates : {f : Finding} → HasItems number t → BreaksOffsetsOrGates (block_of number t) f → BreaksTree number t f
+  up_to_layout : {f : Finding} → BreaksLayout number t f → BreaksTree number t f
   -- a name comes twice in a register module, or else in the header; the first that does, at the root's opener
   clash : {name : List ℕ} (laid : LaidBlock) → IsLaidOutAs number t laid → clash_of laid ≡ Some name → BreaksTree number t (rules.names_clash t.at name)
 
@@ -38,6 +42,11 @@ pub record IsGoodFile (file : File) (t : Tree) (laid : LaidBlock) : Type 0 where
   pub is_good : IsGoodBlock file.number t laid
 
 -- ---- what is answered
+
+-- a value that is right; or a refusal that names the first of all that the tree breaks up to its layout
+abbrev pub FindsLayout : {X : Type 0} → Result X DescFault → ℕ → Tree → (X → Type 0) → Type 0
+FindsLayout (Ok x) number t IsRight = IsRight x
+FindsLayout (Err e) number t IsRight = RefusesFirst e number (BreaksLayout number t)
 
 -- a value that is right; or a refusal that names the first of all that the tree breaks
 abbrev pub FindsInTree : {X : Type 0} → Result X DescFault → ℕ → Tree → (X → Type 0) → Type 0

@@ -6,7 +6,7 @@ ghost use Rattle.cg_desc.specs.Laid.{IsLaid};
 ghost use Rattle.cg_desc.specs.Valid.{IsValidBlock};
 ghost use Rattle.cg_blkread.specs.Described.{block_of};
 ghost use Rattle.cg_block.specs.Stages.{IsBlock, IsLaidOutAs};
-ghost use Rattle.cg_block.specs.Breaks.{FindsInTree};
+ghost use Rattle.cg_block.specs.Breaks.{FindsLayout};
 
 use cg_blkread::block;
 use cg_desc::{BlockDesc, DescFault, LaidBlock};
@@ -25,7 +25,7 @@ fn laid_items(
     requires stage { IsBlock tree.now }
     requires block { block ≡ block_of file tree.now }
     requires valid { IsValidBlock block }
-    ensures finds { FindsInTree result file tree.now (λ laid. IsLaidOutAs file tree.now laid) }
+    ensures finds { FindsLayout result file tree.now (λ laid. IsLaidOutAs file tree.now laid) }
     ensures laid { IfOk result (λ laid. AllOf IsLaid laid.faces) }
 {
     match expand(alloc, &block) {
@@ -34,11 +34,11 @@ fn laid_items(
     }
 }
 
-/// The block that a tree describes, its interfaces laid out, or the first of all that the tree breaks up to there.
+/// The block that a tree describes, its interfaces laid out, or the first of all that the tree breaks up to its layout.
 ///
 /// `file` is the number of the tree's file. Names that come twice in what is written are no matter of this call.
 pub fn laid_block(alloc: Global, tree: &Tree, file: u32) -> Result<LaidBlock, DescFault>
-    ensures finds { FindsInTree result file tree.now (λ laid. IsLaidOutAs file tree.now laid) }
+    ensures finds { FindsLayout result file tree.now (λ laid. IsLaidOutAs file tree.now laid) }
     ensures valid { IfOk result (λ laid. IsValidBlock (block_of file tree.now)) }
     ensures laid { IfOk result (λ laid. AllOf IsLaid laid.faces) }
 {
