@@ -1,0 +1,8 @@
+use Rattle.std.proofs.Common.{◌≡◌, ◌++◌, drop, map}
+use Rattle.cg_irq.specs.Listed.{list_bits}
+use Rattle.cg_irq.proofs.listing.add_interrupts.Given as goal
+
+-- the bits so far and those of the interrupts that are left are all
+abbrev pub invariant-loop-item : goal.invariant-loop-item
+invariant-loop-item l =
+    l.bits ++ list_bits l.inst l.item (map (λ interrupt. interrupt.width) (drop l.item l.intrs)) ≡ l.initial.bits ++ list_bits l.inst 0 (map (λ interrupt. interrupt.width) l.intrs)

@@ -1,0 +1,9 @@
+use Rattle.std.proofs.Common.{◌≡◌, ◌++◌, drop, map}
+use Rattle.std.specs.List.{slice_get}
+use Rattle.cg_irq.specs.Listed.{bits_of, interrupt_widths, widths_of}
+use Rattle.cg_irq.proofs.listing.interrupts_of.Given as goal
+
+-- the bits so far and those of the instances that are left are all
+abbrev pub invariant-loop-number : goal.invariant-loop-number
+invariant-loop-number l =
+    l.bits ++ bits_of l.number (map (λ k. interrupt_widths (slice_get l.top.blocks k)) (drop l.number l.top.kinds)) ≡ bits_of 0 (widths_of interrupt_widths l.top)

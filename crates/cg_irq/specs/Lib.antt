@@ -1,0 +1,5 @@
+pub mod Instances
+pub mod Numbers
+pub mod Violations
+pub mod Walked
+pub mod Listed
