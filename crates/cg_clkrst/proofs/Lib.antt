@@ -1,0 +1,6 @@
+mod PortLists
+pub mod NamedSources
+mod Owners
+mod FirstLacks
+mod Tyings
+mod OwnPorts

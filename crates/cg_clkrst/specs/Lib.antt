@@ -1,0 +1,4 @@
+pub mod Ports
+pub mod Ties
+pub mod Violations
+pub mod Owned
