@@ -1,0 +1,9 @@
+pub mod Signals
+pub mod Pins
+pub mod Violations
+pub mod Brackets
+pub mod Regions
+pub mod Resolved
+pub mod Listed
+pub mod Checks
+pub mod Laws
