@@ -1,0 +1,9 @@
+pub mod Top
+pub mod Nets
+pub mod TopModule
+pub mod Clashes
+pub mod Fits
+pub mod Modules
+pub mod Ways
+pub mod Select
+pub mod NetLaws
