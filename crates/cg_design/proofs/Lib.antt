@@ -1,0 +1,4 @@
+mod Order
+mod Firsts
+mod Names
+mod OfFiles
