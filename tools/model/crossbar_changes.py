@@ -1,9 +1,8 @@
 """Makes crossbars by chance, and changes them so that rules are broken, or just not."""
 import random
 
-from model.faulty import NAMES, NUMBERS, ODD, Changer
-from model.spelling import Spelled
-from model.trees import Json, Object
+from model.changes import KeyChanger
+from model.trees import Object
 
 KEYS = "name clock clock_primary nodes connections type xbar addr_range base_addr size_byte desc".split()
 WORDS = ["host", "device", "a.b", "a.b.c", ".a", "b.", "h0", "d0", "true", "clk"]
@@ -35,17 +34,10 @@ def random_node(name: str, kind: str, chance: random.Random) -> Object:
     return node
 
 
-class CrossbarChanger(Changer):
+class CrossbarChanger(KeyChanger):
     """Changes one crossbar; chance decides what."""
 
-    def value(self) -> Json:
-        """A value of any kind, now and then a name of a crossbar's part."""
-        odd = Spelled(self.chance.choice(ODD))
-        return self.chance.choice([self.chance.choice(NUMBERS), self.chance.choice(NAMES), self.chance.choice(WORDS), odd, True, False])
-
-    def add(self) -> None:
-        """A known key of crossbars with some value."""
-        self.some(dict)[self.chance.choice(KEYS)] = self.value()
+    keys, words = KEYS, WORDS
 
     def connections(self) -> Object:
         """The object of connections, or an empty one in its place."""

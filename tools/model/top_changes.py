@@ -1,8 +1,7 @@
 """Makes tops by chance, and changes them so that rules are broken, or just not."""
 import random
 
-from model.faulty import NAMES, NUMBERS, ODD, Changer
-from model.spelling import Spelled
+from model.changes import KeyChanger
 from model.trees import Json, Object
 
 KEYS = """
@@ -87,17 +86,10 @@ def random_top(chance: random.Random) -> Object:
     return top
 
 
-class TopChanger(Changer):
+class TopChanger(KeyChanger):
     """Changes one top; chance decides what."""
 
-    def value(self) -> Json:
-        """A value of any kind, now and then a word of tops."""
-        odd = Spelled(self.chance.choice(ODD))
-        return self.chance.choice([self.chance.choice(NUMBERS), self.chance.choice(NAMES), self.chance.choice(WORDS), odd, True, False])
-
-    def add(self) -> None:
-        """A known key of tops with some value."""
-        self.some(dict)[self.chance.choice(KEYS)] = self.value()
+    keys, words = KEYS, WORDS
 
     def copy(self) -> None:
         """An element of a list once more, or so often that the list comes to a limit, or passes it."""
