@@ -40,6 +40,7 @@ phrases =
     ∷ (54, codes "bad range")
     ∷ (55, codes "ranges overlap")
     ∷ (56, codes "crossbars in a circle")
+    ∷ (57, codes "bad space")
     ∷ (60, codes "name twice")
     ∷ (62, codes "base missing")
     ∷ (63, codes "bad clock")

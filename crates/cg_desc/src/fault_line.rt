@@ -7,7 +7,7 @@ use cg_base::{Memory, Text};
 use std::alloc::{AllocError, Global};
 
 // The rules and their phrases.
-const PHRASES: [(u8, &str); 39] = [
+const PHRASES: [(u8, &str); 40] = [
     (10, "file absent"),
     (11, "too large"),
     (12, "not UTF-8"),
@@ -40,6 +40,7 @@ const PHRASES: [(u8, &str); 39] = [
     (54, "bad range"),
     (55, "ranges overlap"),
     (56, "crossbars in a circle"),
+    (57, "bad space"),
     (60, "name twice"),
     (62, "base missing"),
     (63, "bad clock"),

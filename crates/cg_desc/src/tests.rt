@@ -39,6 +39,7 @@ const RULES: &str = "\
 54 bad range
 55 ranges overlap
 56 crossbars in a circle
+57 bad space
 60 name twice
 62 base missing
 63 bad clock
