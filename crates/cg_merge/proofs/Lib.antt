@@ -5,8 +5,9 @@ mod Repeats
 mod Partners
 mod Spellings
 mod NodeRules
-mod FirstFaults
+pub mod FirstFaults
 mod BlockNumbers
 mod Fits
 mod NodeEnds
 mod OneEnd
+pub mod OneMerge

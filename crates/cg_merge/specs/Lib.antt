@@ -6,3 +6,4 @@ pub mod Spelling
 pub mod Faults
 pub mod Kinds
 pub mod NodeEnds
+pub mod Laws

@@ -14,8 +14,8 @@ use cg_desc::{DescFault, Fault, MergedTop};
 use cg_finding::{Found, refusal};
 use std::alloc::Global;
 
-/// The earlier of two faults, as far as there are two.
-fn earlier_fault(first: Option<Fault>, second: Option<Fault>) -> Option<Fault>
+/// The earlier of two faults, as far as there are two; the first, where neither is before the other.
+pub fn earlier_fault(first: Option<Fault>, second: Option<Fault>) -> Option<Fault>
     ensures { KeepsEarlier first second result }
 {
     let Some(first) = first else {

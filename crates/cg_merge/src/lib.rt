@@ -5,6 +5,8 @@
 //! another are merged, unchanged, and fit one another; else the answer is the first fault of all files, exactly. `merge_one` takes one
 //! crossbar without a top: there is no instance, and every node is outside.
 //!
+//! A design is merged in one way (`merged_tops_are_one`).
+//!
 //! What is broken is defined rule by rule over the files, apart from the order in which the code looks: names of instances and crossbars,
 //! address spaces and bases in the top's own file, and the nodes of each crossbar.
 //!
@@ -17,11 +19,14 @@ mod faults;
 mod instances;
 mod interfaces;
 mod kinds;
+mod laws;
 mod merging;
 mod nodes;
 mod one;
 mod spelling;
 mod top_rules;
 
+pub use faults::earlier_fault;
+pub use laws::merged_tops_are_one;
 pub use merging::merge;
 pub use one::merge_one;
