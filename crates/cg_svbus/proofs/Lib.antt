@@ -1,6 +1,3 @@
-pub mod Labels
-pub mod NodeLists
-pub mod Powers
-pub mod Bundles
-pub mod Made
-pub mod Graphs
+pub mod Countings
+pub mod TopParts
+pub mod Spellings

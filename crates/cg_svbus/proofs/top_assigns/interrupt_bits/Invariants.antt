@@ -1,0 +1,10 @@
+use Rattle.std.proofs.Common.{◌≡◌, ◌++◌, ◌∷◌, drop, map}
+use Rattle.cg_sv.specs.Views.{expression_of}
+use Rattle.cg_svspec.specs.Tree.{lit}
+use Rattle.cg_topspec.specs.Nets.{interrupt_bit}
+use Rattle.cg_svbus.proofs.top_assigns.interrupt_bits.Given as goal
+
+-- the parts so far, and then those of the bits that are left, are all
+abbrev pub invariant-loop-bit : goal.invariant-loop-bit
+invariant-loop-bit l =
+    map expression_of l.parts.items ++ map (interrupt_bit l.top) (drop l.bit-index l.bits) ≡ lit 1 0 ∷ map (interrupt_bit l.top) l.bits
