@@ -15,7 +15,7 @@ use Rattle.cg_svspec.specs.Links.{comes_in, device_link, goes_out, host_link}
 use Rattle.cg_svspec.specs.Names.{Among, Differ, module_names}
 use Rattle.cg_svspec.specs.Tree.{Connection, Entry, Module, Parameter, Port}
 use Rattle.cg_svspec.specs.Walk.{module_named, register_name}
-use Rattle.cg_svspec.specs.WellFormed.{connection_names}
+use Rattle.cg_svspec.specs.WellFormed.{connection_names, inputs_of}
 use Rattle.cg_topspec.specs.Top.{NodeId, all_nodes, block_of, crossbar_of, device_node, end_of, inner_host, is_host, node_of, outer_device}
 use Rattle.cg_topspec.specs.TopModule.{address_width, crossbar_module_name}
 use Rattle.cg_topspec.specs.TopModule as spec
@@ -33,6 +33,10 @@ top_module top = spec.top_module top.merged top.numbers top.ties top.pins
 
 abbrev pub top_ports : Built → List Port
 top_ports top = spec.top_ports top.merged top.numbers top.pins
+
+-- the names of its inputs
+abbrev pub top_inputs : Built → List (List ℕ)
+top_inputs top = inputs_of (top_ports top)
 
 abbrev pub top_nets : Built → List Entry
 top_nets top = spec.top_nets top.merged top.numbers top.pins

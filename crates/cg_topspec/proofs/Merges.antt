@@ -29,7 +29,7 @@ use Rattle.cg_topspec.specs.Top.{NodeId, all_nodes, block_of, counting, device_n
 
 -- ---- what a node's end says
 
-face_by : (d : Design) (x i f : ℕ) (node : NodeDesc) (e : NodeEnd) → e ≡ Face i f → StandsFor d x node e → NamesFace d node i f
+pub face_by : (d : Design) (x i f : ℕ) (node : NodeDesc) (e : NodeEnd) → e ≡ Face i f → StandsFor d x node e → NamesFace d node i f
 face_by d x i f node (Face j g) e (StandsFor.device_interface _ _ names) =
     let a : j ≡ i = cc in
     let b : g ≡ f = cc in
@@ -44,7 +44,7 @@ host_by d x i f node (Face j g) e s = absurd cc
 host_by d x i f node (Xbar y) e s = absurd cc
 host_by d x i f node Outside e s = absurd cc
 
-joins_by : (d : Design) (x y : ℕ) (node : NodeDesc) (e : NodeEnd) → e ≡ Xbar y → StandsFor d x node e → Joins d x node y
+pub joins_by : (d : Design) (x y : ℕ) (node : NodeDesc) (e : NodeEnd) → e ≡ Xbar y → StandsFor d x node e → Joins d x node y
 joins_by d x y node (Xbar z) e (StandsFor.crossbar _ joins) = let a : z ≡ y = cc in subst (λ k. Joins d x node k) a joins
 joins_by d x y node (Face j g) e s = absurd cc
 joins_by d x y node (Host j g) e s = absurd cc
@@ -86,10 +86,10 @@ module _ (m : MergedTop) (is : IsMerged m) where
   sound : IsSound m
   sound = is_sound m (of_top is)
 
-  end_at : (n : NodeId) → IsNode m n → EndAt m n.xbar n.node (end_of m n)
+  pub end_at : (n : NodeId) → IsNode m n → EndAt m n.xbar n.node (end_of m n)
   end_at n there = end_fact m n there is.ends.count is.ends.counts
 
-  stands : (n : NodeId) → IsNode m n → StandsFor (design_of m) n.xbar (node_of m n) (end_of m n)
+  pub stands : (n : NodeId) → IsNode m n → StandsFor (design_of m) n.xbar (node_of m n) (end_of m n)
   stands n there = is.ends.each n.xbar n.node (node_of m n) (end_of m n) (node_fact m n there) (end_at n there)
 
   -- nodes of one crossbar with one name are one
@@ -105,7 +105,7 @@ module _ (m : MergedTop) (is : IsMerged m) where
       same_crossbar m x a b p q = sym (crossbar_is m x a p) ∙ crossbar_is m x b q
 
   -- nodes of one crossbar that join one crossbar are one
-  one_joined : (a b : NodeId) (y : ℕ) → IsNode m a → IsNode m b → a.xbar ≡ b.xbar → end_of m a ≡ Xbar y → end_of m b ≡ Xbar y → a ≡ b
+  pub one_joined : (a b : NodeId) (y : ℕ) → IsNode m a → IsNode m b → a.xbar ≡ b.xbar → end_of m a ≡ Xbar y → end_of m b ≡ Xbar y → a ≡ b
   one_joined a b y there_a there_b same end_a end_b =
       let p = joins_by (design_of m) a.xbar y (node_of m a) (end_of m a) end_a (stands a there_a) in
       let q = joins_by (design_of m) b.xbar y (node_of m b) (end_of m b) end_b (stands b there_b) in

@@ -69,10 +69,10 @@ clocks_differ m ties are x =
 node_names : MergedTop → NodeId → List (List ℕ)
 node_names m n = connection_names (node_connections m n)
 
-nodes_once : (m : MergedTop) (x : ℕ) → NoneTwice (nodes_in m x)
+pub nodes_once : (m : MergedTop) (x : ℕ) → NoneTwice (nodes_in m x)
 nodes_once m x = twice_map (node_id x) (counting 0 (length (crossbar_of m x).nodes)) (counting_once 0 (length (crossbar_of m x).nodes)) (λ a b i j e. ap (λ (n : NodeId). n.node) e)
 
-ordered_once : (m : MergedTop) (x : ℕ) → NoneTwice (ordered_in m x)
+pub ordered_once : (m : MergedTop) (x : ℕ) → NoneTwice (ordered_in m x)
 ordered_once m x =
     twice_join (filter (is_host m) (nodes_in m x)) (filter (λ n. not (is_host m n)) (nodes_in m x)) (twice_filter (is_host m) (nodes_in m x) (nodes_once m x))
     (twice_filter (λ n. not (is_host m n)) (nodes_in m x) (nodes_once m x))
@@ -104,7 +104,7 @@ module _ (x : XbarDesc) (ranges : List NodeRanges) (differ : Differ (module_name
 
 -- ---- all connections of a crossbar's instance
 
-its_node : (m : MergedTop) (x : ℕ) (n : NodeId) → Among n (ordered_in m x) → Among n (nodes_in m x)
+pub its_node : (m : MergedTop) (x : ℕ) (n : NodeId) → Among n (ordered_in m x) → Among n (nodes_in m x)
 its_node m x n a = by (in_parts n (filter (is_host m) (nodes_in m x)) (filter (λ n. not (is_host m n)) (nodes_in m x)) a) where
   by : Among n (filter (is_host m) (nodes_in m x)) ⊎ Among n (filter (λ n. not (is_host m n)) (nodes_in m x)) → Among n (nodes_in m x)
   by (inl z) = (from_those (is_host m) (nodes_in m x) n z).0

@@ -47,7 +47,7 @@ apart_names (f ∷ fs) d = (no_other f.name fs d.0, apart_names fs d.1) where
   no_other n (g ∷ gs) all (inl e) = all.0 e
   no_other n (g ∷ gs) all (inr a) = no_other n gs all.1 a
 
-width_name_tells : (a b : Option (List ℕ)) → address_width_name a ≡ address_width_name b → a ≡ b
+pub width_name_tells : (a b : Option (List ℕ)) → address_width_name a ≡ address_width_name b → a ≡ b
 width_name_tells None None e = refl
 width_name_tells None (Some b) e = absurd (let size : 2 ≡ length (codes "Aw_" ++ b) = ap length e in omega (arith, size))
 width_name_tells (Some a) None e = absurd (let size : length (codes "Aw_" ++ a) ≡ 2 = ap length e in omega (arith, size))

@@ -26,16 +26,16 @@ use Rattle.cg_topspec.specs.Top.{block_of, instance_of}
 use Rattle.cg_topspec.specs.TopModule.{alert_connection, clock_ports, crossbar_clock, crossbar_ties, face_connections, host_connections, instance_ties, interrupt_connection, is_instance, is_listed, net_connections, pin_input_connection, pin_output_connection, reset_ports, source_net, tie_connection}
 use Rattle.cg_clkrst.specs.declared.tie.Owner.TheVariants as owner
 
-instance_itself : (i : ℕ) (o : Owner) → o ≡ owner.Inst i → is_instance i o ≡ true
+pub instance_itself : (i : ℕ) (o : Owner) → o ≡ owner.Inst i → is_instance i o ≡ true
 instance_itself i (owner.Inst j) e = let same : j ≡ i = cc in eq-eqb j i same
 instance_itself i (owner.Xbar x) e = absurd cc
 
-listed_itself : (x : ℕ) (o : Owner) → o ≡ owner.Xbar x → is_listed x o ≡ true
+pub listed_itself : (x : ℕ) (o : Owner) → o ≡ owner.Xbar x → is_listed x o ≡ true
 listed_itself x (owner.Inst j) e = absurd cc
 listed_itself x (owner.Xbar y) e = let same : y ≡ x = cc in eq-eqb y x same
 
 -- a source's net is a port of the top
-source_is_port : (m : MergedTop) (numbers : IrqMap) (pins : PinMap) (port : TiePort) (source : List ℕ) → HasSource m port source → Among (input_port 1 (source_net port.reset source)) (top_ports m numbers pins)
+pub source_is_port : (m : MergedTop) (numbers : IrqMap) (pins : PinMap) (port : TiePort) (source : List ℕ) → HasSource m port source → Among (input_port 1 (source_net port.reset source)) (top_ports m numbers pins)
 source_is_port m numbers pins port source (HasSource.instance_clock i d p s at is) = in_front _ (clock_ports m) _ (in_map (λ k. input_port 1 (clock_net k)) m.top.sources s is.there)
 source_is_port m numbers pins port source (HasSource.instance_reset i d p s at is) =
     in_back _ (clock_ports m) _ (in_front _ (reset_ports m) _ (in_map (λ k. input_port 1 (reset_net k)) m.top.resets s is.there))

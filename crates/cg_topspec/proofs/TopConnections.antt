@@ -39,7 +39,7 @@ device_face_gives i f (Host j g) e = cc
 device_face_gives i f (Xbar x) e = cc
 device_face_gives i f Outside e = cc
 
-host_face_gives : (i f : ℕ) (e : NodeEnd) → is_host_face i f e ≡ true → e ≡ Host i f
+pub host_face_gives : (i f : ℕ) (e : NodeEnd) → is_host_face i f e ≡ true → e ≡ Host i f
 host_face_gives i f (Host j g) e = let h = and_both _ _ e in let a : j ≡ i = eqb-true _ _ h.0 in let b : g ≡ f = eqb-true _ _ h.1 in rw (a, b) refl
 host_face_gives i f (Face j g) e = cc
 host_face_gives i f (Xbar x) e = cc

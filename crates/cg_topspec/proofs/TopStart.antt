@@ -45,7 +45,7 @@ port_parts n (p ∷ ps) qs (inr a) = up (port_parts n ps qs a) where
   up (inl b) = inl (inr b)
   up (inr b) = inr b
 
-input_is_port : (ps : List Port) (n : List ℕ) → Among n (inputs_of ps) → Among n (port_names ps)
+pub input_is_port : (ps : List Port) (n : List ℕ) → Among n (inputs_of ps) → Among n (port_names ps)
 input_is_port [] n a = a
 input_is_port (p ∷ ps) n a = by p.input (input_is_port ps n) a where
   by : (b : Bool) → (Among n (inputs_of ps) → Among n (port_names ps)) → Among n (cond b (p.name ∷ inputs_of ps) (inputs_of ps)) → Among n (p.name ∷ port_names ps)
@@ -225,7 +225,7 @@ of_crossbar top y c a = by (in_parts c (crossbar_ties top.ties y) _ a) where
   by (inl b) = let h = from_map crossbar_clock (filter (λ t. is_listed y t.owner) top.ties) c b in of_clock h.0.port (ap (λ (z : Connection). z.name) h.2)
   by (inr b) = let h = from_each (node_connections top.merged) (ordered_in top.merged y) c b in at h.0 (among h.0 (in_parts h.0 _ _ h.1)) h.2
 
-plain_links : (top : Built) (n : NodeId) (e : NodeEnd) → IsPlain e → joined_link top.merged n true e ≡ own_link top.merged n
+pub plain_links : (top : Built) (n : NodeId) (e : NodeEnd) → IsPlain e → joined_link top.merged n true e ≡ own_link top.merged n
 plain_links top n (Face i f) p = refl
 plain_links top n (Host i f) p = refl
 plain_links top n Outside p = refl

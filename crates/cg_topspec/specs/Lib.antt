@@ -6,4 +6,6 @@ pub mod Fits
 pub mod Modules
 pub mod Ways
 pub mod Select
+pub mod Selection
 pub mod NetLaws
+pub mod WellFormed
