@@ -1,6 +1,2 @@
-mod Laid
-mod Lists
-mod Sums
-pub mod Splits
-pub mod Numbers
-pub mod Cuts
+pub mod Lookups
+pub mod Loops

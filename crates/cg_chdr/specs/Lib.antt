@@ -1,4 +1,0 @@
-pub mod Answers
-pub mod Small
-pub mod Views
-pub mod Contents

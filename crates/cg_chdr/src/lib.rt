@@ -1,31 +1,17 @@
-//! C headers: the writer of a block's header, and the reader of headers.
+//! C headers: of blocks, by `cg_blkhdr`, and of tops (OpenTitan Register Tool and Top Generation Tool, C headers).
 //!
-//! `block_header` writes where a block's registers and windows are, which bits their fields have, and their reset values, for the
-//! firmware that drives the block (OpenTitan Register Tool, C headers). The text is the one of `cg_hdrspec`; its contract says what
-//! the text means by what a reader of headers finds in it. A header that would define a name twice is refused, with the first such
-//! name, exactly where one repeats. `read` gives the constants of a text exactly where the text is a header, and else the first
-//! line that has no form in its place.
+//! `top_header` writes the header of a merged top from its numbers of interrupts and alerts and its pins: the base and the size of each
+//! device interface, and the numbers of interrupts, alerts and pins. A header in which a name would be defined twice is refused, with the
+//! first such name, exactly where one repeats; `top_header_names` has the names. `block_header` and `read` are passed on.
 //!
-//! Not promised: that memory is found, or that a compiler of C takes the text.
+//! The text is the one of `cg_tophdr`, and by its law the constants that a reader finds in it are the top's. Not promised: that memory is
+//! found, or that a compiler of C takes the text.
 #![tactic(auto)]
 
-mod definition;
 mod definitions;
-mod header;
-mod line;
+mod instances;
 mod names;
-mod numeral;
-mod pieces;
-mod reading;
-mod values;
+mod top;
 
-use cg_base::Text;
-pub use header::{HdrClash, block_header};
-pub use reading::{HdrFault, read};
-
-/// A constant of a header: its name, and its value below 2^64.
-#[derive(Debug, Drop, PartialEq)]
-pub struct Constant {
-    pub name: Text,
-    pub value: u64,
-}
+pub use cg_blkhdr::{Constant, HdrClash, HdrFault, block_header, read};
+pub use top::{top_header, top_header_names};

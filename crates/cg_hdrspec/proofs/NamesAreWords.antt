@@ -25,7 +25,7 @@ word_characters [] h = absurd h
 word_characters (c ∷ cs) h = (rw (h.0) refl, h.1)
 
 -- a word with characters of names behind it
-word_join : (a b : List ℕ) → IsWord a → Each is_name_character b → IsWord (a ++ b)
+pub word_join : (a b : List ℕ) → IsWord a → Each is_name_character b → IsWord (a ++ b)
 word_join [] b w e = absurd w
 word_join (c ∷ cs) b w e = (w.0, each_join is_name_character cs b w.1 e)
 
@@ -51,7 +51,7 @@ upper_word [] h = absurd h
 upper_word (c ∷ cs) h = (upper_first c h.0, upper_each cs h.1)
 
 -- a word behind another one
-behind_word : (a b : List ℕ) → IsWord a → IsWord b → IsWord (behind a b)
+pub behind_word : (a b : List ℕ) → IsWord a → IsWord b → IsWord (behind a b)
 behind_word a b v w = word_join a (codes "_" ++ b) v (each_join is_name_character (codes "_") b (refl, tt) (word_characters b w))
 
 -- what the names of an interface begin with

@@ -2,7 +2,7 @@
 //!
 //! Its definitions are in `specs/`: what a header says (`Header`), where a text stops being one (`HeaderFault`), the header of a
 //! block (`BlockHeader`), and what it means for a header to agree with a block (`Meaning`). `Reading` finds the answer of a text
-//! line by line, for the proofs and for `cg_chdr`. The laws are the functions below, whose bodies do nothing. The first says of
+//! line by line, for the proofs and for `cg_blkhdr`. The laws are the functions below, whose bodies do nothing. The first says of
 //! every block that is laid out, and in whose header no name repeats, that the header's text has just the block's constants, and
 //! that they are the places, bits and reset values of its registers and windows. The other two say that every text has one answer:
 //! the constants of a header, or its first line without a form.

@@ -1,0 +1,4 @@
+pub mod Answers
+pub mod Small
+pub mod Views
+pub mod Contents

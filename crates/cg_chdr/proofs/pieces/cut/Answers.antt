@@ -1,5 +1,0 @@
-use Rattle.cg_chdr.proofs.Splits.{cut_is}
-use Rattle.cg_chdr.proofs.pieces.cut.Goals as goal
-
-pub returns : goal.returns
-returns c = cut_is c.args.separator c.args.text.now c.split_once.result c.split_once.ensures.cases c.requires

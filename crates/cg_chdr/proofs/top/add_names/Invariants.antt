@@ -1,0 +1,9 @@
+use Rattle.std.proofs.Common.{◌≡◌, ◌++◌, drop, map}
+use Rattle.cg_blkhdr.specs.Views.{definition_of}
+use Rattle.cg_chdr.proofs.top.add_names.Given as goal
+
+-- the names so far, and then those of the definitions that are left, are all
+abbrev pub invariant-loop-definition : goal.invariant-loop-definition
+invariant-loop-definition l =
+    l.names ++ map (λ d. d.name) (map definition_of (drop l.definition-index l.definitions))
+    ≡ l.fn.names ++ map (λ d. d.name) (map definition_of l.definitions)

@@ -1,0 +1,11 @@
+pub mod Numbered
+pub mod NamesAreWords
+pub mod Instances
+pub mod Interfaces
+pub mod Bits
+pub mod Constants
+pub mod Law
+pub mod Meeting
+pub mod Examples
+pub mod Possible
+pub mod PossibleLaws

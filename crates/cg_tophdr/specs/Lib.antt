@@ -1,0 +1,3 @@
+pub mod TopHeader
+pub mod Meaning
+pub mod Laws
