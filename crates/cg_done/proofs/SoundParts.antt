@@ -1,161 +1,154 @@
--- Completed interrupts, parameters and pins break no rule.
-use Rattle.std.proofs.Common.{◌≡◌, ℕ, ◌≤◌, Bool, true, false, ◌&&◌, ◌||◌, nat_le, is_some, codes, List, [], ◌∷◌, map, Option, Some, None, option_map, option_and_then, unwrap_or, arith, refl, ap, ◌∙◌}
-use Rattle.std.specs.Prelude.{if◌then◌else◌}
-use Rattle.std.proofs.lemmas.Bool.{and_parts}
-use Rattle.std.proofs.lemmas.Bool.Decides.{nat_tests}
-use Rattle.std.specs.List.{list_all}
-use Rattle.std.specs.Option.{option_map_or}
-use Rattle.serde_json.specs.Data.{Data, string}
-use Rattle.serde_json.specs.Find.{as_str, get}
-use Rattle.cg_base.specs.Number.Scan.{number_of as number_in_text}
+-- Completed instances break no rule.
+use Rattle.std.proofs.Common.{◌≡◌, ℕ, true, List, [], ◌∷◌, Option, Some, None, option_map, option_and_then, codes, inl, inr, refl, sym, ap, ◌∙◌, subst}
+use Rattle.serde_json.specs.Data.{Data}
+use Rattle.serde_json.specs.Find.{get}
 use Rattle.cg_hjson.specs.declared.tree.Tree.{Tree}
-use Rattle.cg_keys.specs.Forms.{if_within, is_one_of, natural, or_else}
-use Rattle.cg_keys.specs.Lookups.{number_at, text_at}
-use Rattle.cg_keys.specs.Table.{Key, may, needs}
+use Rattle.cg_keys.specs.Elements.{object_faults}
+use Rattle.cg_keys.specs.Forms.{or_else}
+use Rattle.cg_keys.specs.Lists.{first_members_after}
+use Rattle.cg_keys.specs.Lookups.{text_at}
+use Rattle.cg_keys.specs.Table.{Key, may, needs, value_at}
 use Rattle.cg_keys.specs.Values.{members_of}
-use Rattle.cg_keys.specs.declared.forms.Form.{Form}
-use Rattle.cg_keys.specs.declared.forms.Form.TheVariants.{Name, Number, Text, Word}
-use Rattle.cg_keys.specs.declared.words.Words.TheVariants.{InterruptType}
-use Rattle.cg_blkread.specs.Tables.{alert_keys, interrupt_keys, parameter_keys, pin_keys}
-use Rattle.cg_done.specs.Full.{Pair, full_alert, full_interrupt, full_parameter, full_pin, number_of, pair, pair_if, with_all}
-use Rattle.cg_done.proofs.CompletedFields.{IsWord, word_at}
-use Rattle.cg_done.proofs.Lookups.{is_object, number_at_told, number_told_in, object_stays, text_at_told}
-use Rattle.cg_done.proofs.SoundCompleted.{Puts, fits_first, object_completed, only_form, table_of, word_fits}
-use Rattle.cg_done.proofs.SoundFields.{may_fit}
-use Rattle.cg_done.proofs.SoundTables.{fits_one_told, fits_told, key_good, object_good}
-use Rattle.cg_done.proofs.Told.{integer_in, told}
+use Rattle.cg_keys.specs.declared.forms.Form.TheVariants.{Name, Object}
+use Rattle.cg_topread.specs.Listed.{bases_faults, faces_faults, instance_faults, instance_members_faults, members_at, sources_faults}
+use Rattle.cg_topread.specs.Tables.{bases_forms, clock_source_keys, instance_keys, reset_source_keys}
+use Rattle.cg_topread.specs.Types.{if_name, type_in}
+use Rattle.cg_blkdone.specs.Full.{with_all}
+use Rattle.cg_blkdone.proofs.Completion.{by_either, by_object, stands_at, text_kept}
+use Rattle.cg_blkdone.proofs.Lookups.{found_in_completed, is_object, no_object_stays}
+use Rattle.cg_blkdone.proofs.Puts.{last_at}
+use Rattle.cg_blkdone.proofs.SoundCompleted.{Puts, fits_first, object_completed, only_form, table_of}
+use Rattle.cg_blkdone.proofs.SoundFields.{row_good}
+use Rattle.cg_blkdone.proofs.SoundNone.{is_none, none_by_both}
+use Rattle.cg_blkdone.proofs.SoundTables.{fits_one_told, none_of_object, object_good, table_good}
+use Rattle.cg_blkdone.proofs.Told.{told}
+use Rattle.cg_done.specs.FullTop.{full_base, full_bases, full_instance, instance_pairs, no_ports, value_or}
+use Rattle.cg_done.proofs.Differ.{Differs, differs_at}
+use Rattle.cg_done.proofs.Lasts.{last_base, last_bases, last_in_instance}
+use Rattle.cg_done.proofs.ReadTops.{none_in_both}
+use Rattle.cg_done.proofs.SoundJudged.{At, Judges, at_holds, at_says, part_fits, part_stays, put_is, row_fits, value_fits, value_stays}
+use Rattle.cg_done.proofs.SoundSources.{BaseGood, EachTold, FaceGood, SourceGood, bases_good, bases_whole, face_good, faces_good, faces_told, good_bases, good_faces, good_sources, nothing_told, sources_good}
 
--- ---- what is put
+-- ---- what is found of an instance, by what it tells
 
-only_form_if : (f : Form) (o : Option Data) → option_map_or (λ e. fits_told f e || false) o true ≡ true → option_map_or (fits_told f) o true ≡ true
-only_form_if f None h = refl
-only_form_if f (Some e) h = only_form f e h
+-- sources
+pub sources_judged : (ks : List Key) → Judges (EachTold (SourceGood ks)) (sources_faults ks)
+unfolding sources_faults first_members_after
+sources_judged ks = record { none = refl; says = sources_good ks; holds = good_sources ks }
 
--- a value at a key with one form, if there is one
-row_form : (key : List ℕ) (f : Form) (o : Option Data) → key_good (may key (f ∷ [])) o ≡ true → option_map_or (fits_told f) o true ≡ true
-row_form key f o h = only_form_if f o (may_fit (may key (f ∷ [])) o h)
+-- base addresses
+bases_judged : Judges (EachTold BaseGood) bases_faults
+unfolding bases_faults first_members_after
+bases_judged = record { none = refl; says = bases_good; holds = good_bases }
 
-within_is : (b : Bool) (n : ℕ) → is_some (if b then Some n else None) ≡ true → b ≡ true
-within_is true n h = refl
-within_is false n h = absurd cc
+-- those of interfaces
+faces_judged : Judges (EachTold FaceGood) faces_faults
+unfolding faces_faults first_members_after
+faces_judged = record { none = refl; says = faces_told; holds = good_faces }
 
-abbrev numeral : Data → Option ℕ
-numeral e = or_else (option_and_then natural (integer_in e)) (option_and_then number_in_text (as_str e))
+-- an instance breaks nothing
+record InstanceGood (d : Data) : Type 0 where
+  table : object_good instance_keys d ≡ true
+  clocks : At (codes "clock_srcs") (EachTold (SourceGood clock_source_keys)) d
+  resets : At (codes "reset_connections") (EachTold (SourceGood reset_source_keys)) d
+  bases : At (codes "base_addr") (EachTold BaseGood) d
+  faces : At (codes "base_addrs") (EachTold FaceGood) d
 
-width_by : (most : ℕ) → 1 ≤ most → most ≤ 4294967295 → (o : Option ℕ) → is_some (option_and_then (if_within 1 most) o) ≡ true
-    → is_some (if_within 1 most (unwrap_or (option_and_then (if_within 0 4294967295) o) 1)) ≡ true
-width_by most least low None h = absurd cc
-width_by most least low (Some n) h =
-    let both = and_parts (nat_le 1 n) (nat_le n most) (within_is (nat_le 1 n && nat_le n most) n h) in
-    let from : nat_le 0 n ≡ true = grind (arith, nat_tests) in
-    let upper : n ≤ most = grind (arith, nat_tests, both.1) in
-    let small : nat_le n 4294967295 ≡ true = grind (arith, nat_tests) in
-    ap (λ b. is_some (if_within 1 most (unwrap_or (if b then Some n else None) 1))) (λ i. from i && small i) ∙ h
+instance_says : (t : Tree) → is_none (instance_faults t) ≡ true → InstanceGood (told t)
+unfolding instance_faults instance_members_faults
+instance_says t none =
+    let first = none_in_both (object_faults instance_keys t) _ none in
+    let clocks = none_in_both (sources_faults clock_source_keys (members_at (codes "clock_srcs") (members_of t))) _ first.1 in
+    let resets = none_in_both (sources_faults reset_source_keys (members_at (codes "reset_connections") (members_of t))) _ clocks.1 in
+    let bases = none_in_both (bases_faults (members_at (codes "base_addr") (members_of t))) _ resets.1 in
+    record {
+      table = sym (none_of_object instance_keys t) ∙ first.0;
+      clocks = at_says _ _ (sources_judged clock_source_keys) (codes "clock_srcs") t clocks.0;
+      resets = at_says _ _ (sources_judged reset_source_keys) (codes "reset_connections") t resets.0;
+      bases = at_says _ _ bases_judged (codes "base_addr") t bases.0;
+      faces = at_says _ _ faces_judged (codes "base_addrs") t bases.1;
+    }
 
-width_default : (most : ℕ) → 1 ≤ most → is_some (if_within 1 most 1) ≡ true
-width_default most least =
-    let passes : nat_le 1 most ≡ true = grind (arith, nat_tests) in ap (λ (b : Bool). is_some {T = ℕ} (if b then Some 1 else None)) passes
+instance_holds : (t : Tree) → InstanceGood (told t) → is_none (instance_faults t) ≡ true
+unfolding instance_faults instance_members_faults
+instance_holds t good =
+    none_by_both (object_faults instance_keys t) _ true true (none_of_object instance_keys t ∙ good.table)
+    (none_by_both (sources_faults clock_source_keys (members_at (codes "clock_srcs") (members_of t))) _ true true
+    (at_holds _ _ (sources_judged clock_source_keys) (codes "clock_srcs") t good.clocks)
+    (none_by_both (sources_faults reset_source_keys (members_at (codes "reset_connections") (members_of t))) _ true true
+    (at_holds _ _ (sources_judged reset_source_keys) (codes "reset_connections") t good.resets)
+    (none_by_both (bases_faults (members_at (codes "base_addr") (members_of t))) _ true true
+    (at_holds _ _ bases_judged (codes "base_addr") t good.bases) (at_holds _ _ faces_judged (codes "base_addrs") t good.faces))))
 
--- a width, or 1 by default
-width_fits : (most : ℕ) → 1 ≤ most → most ≤ 4294967295 → (o : Option Data) → option_map_or (fits_told (Number 1 most)) o true ≡ true
-    → fits_told (Number 1 most) (number_of (unwrap_or (option_and_then (number_told_in 0 4294967295) o) 1)) ≡ true
-width_fits most least low None h = width_default most least
-width_fits most least low (Some e) h = width_by most least low (numeral e) h
+-- ---- a completed instance
 
-width_put : (most : ℕ) → 1 ≤ most → most ≤ 4294967295 → (t : Tree) → key_good (may (codes "width") (Number 1 most ∷ [])) (get (codes "width") (told t)) ≡ true
-    → fits_one_told (Number 1 most ∷ []) (number_of (unwrap_or (number_at 0 4294967295 (codes "width") (members_of t)) 1)) ≡ true
-width_put most least low t row =
-    fits_first (Number 1 most) [] (number_of (unwrap_or (number_at 0 4294967295 (codes "width") (members_of t)) 1))
-    (ap (λ o. fits_told (Number 1 most) (number_of (unwrap_or o 1))) (number_at_told 0 4294967295 (codes "width") t)
-    ∙ width_fits most least low (get (codes "width") (told t)) (row_form (codes "width") (Number 1 most) (get (codes "width") (told t)) row))
+-- an object has a form
+pub object_row : (d : Data) → is_object d ≡ true → fits_one_told (Object ∷ []) d ≡ true
+object_row d is = fits_first Object [] d is
 
-type_by : (o : Option Data) → option_map_or (fits_told (Word InterruptType)) o true ≡ true → is_one_of InterruptType (unwrap_or (option_and_then as_str o) (codes "event")) ≡ true
-unfolding is_one_of
-type_by None h = refl
-type_by (Some e) h = by (as_str e) h where
-  by : (s : Option (List ℕ)) → option_map_or (is_one_of InterruptType) s false ≡ true → is_one_of InterruptType (unwrap_or s (codes "event")) ≡ true
-  by None h = absurd cc
-  by (Some s) h = h
+module _ (t : Tree) (differ : Differs t) (is : is_object (told t) ≡ true) (good : InstanceGood (told t)) where
+  rows : table_good instance_keys (told t) ≡ true
+  rows = table_of instance_keys (told t) is good.table
 
-type_put : (t : Tree) → key_good (may (codes "type") (Word InterruptType ∷ [])) (get (codes "type") (told t)) ≡ true
-    → fits_one_told (Word InterruptType ∷ []) (string (unwrap_or (text_at (codes "type") (members_of t)) (codes "event"))) ≡ true
-type_put t row =
-    fits_first (Word InterruptType) [] (string (unwrap_or (text_at (codes "type") (members_of t)) (codes "event")))
-    (ap (λ o. is_one_of InterruptType (unwrap_or o (codes "event"))) (text_at_told (codes "type") t)
-    ∙ type_by (get (codes "type") (told t)) (row_form (codes "type") (Word InterruptType) (get (codes "type") (told t)) row))
+  bases_object : (v : Tree) → value_at (codes "base_addrs") (members_of t) ≡ Some v → is_object (told v) ≡ true
+  bases_object v found =
+      let row = may (codes "base_addrs") (Object ∷ []) in
+      only_form Object (told v) (row_fits row t v (row_good instance_keys row (told t) (inr (inr (inr (inr (inr (inl refl)))))) rows) found)
 
--- ---- each part
+  instance_puts : Puts instance_keys (instance_pairs (members_of t))
+  instance_puts =
+      let ms = members_of t in
+      let ps = instance_pairs ms in
+      let clocks = may (codes "clock_srcs") (Object ∷ []) in
+      let resets = may (codes "reset_connections") (Object ∷ []) in
+      let base = may (codes "base_addr") bases_forms in
+      let bases = may (codes "base_addrs") (Object ∷ []) in
+      let clocks_put = put_is clocks ps (Some (value_or no_ports (value_at (codes "clock_srcs") ms))) (last_in_instance (codes "clock_srcs") ms)
+      (value_fits clocks no_ports t refl (row_good instance_keys clocks (told t) (inr (inr (inl refl))) rows)) in
+      let resets_put = put_is resets ps (Some (value_or no_ports (value_at (codes "reset_connections") ms))) (last_in_instance (codes "reset_connections") ms)
+      (value_fits resets no_ports t refl (row_good instance_keys resets (told t) (inr (inr (inr (inl refl)))) rows)) in
+      let base_put = put_is base ps (option_map full_base (value_at (codes "base_addr") ms)) (last_base ms)
+      (part_fits base full_base (value_at (codes "base_addr") ms) (λ v found. (face_good v (differs_at t (codes "base_addr") v differ found)).0)) in
+      let bases_put = put_is bases ps (option_map full_bases (value_at (codes "base_addrs") ms)) (last_bases ms)
+      (part_fits bases full_bases (value_at (codes "base_addrs") ms) (λ v found. object_row (full_bases v) (bases_whole v (bases_object v found)))) in
+      let name_put = put_is (needs (codes "name") (Name ∷ [])) ps None (last_in_instance (codes "name") ms) tt in
+      let type_put = put_is (needs (codes "type") (Name ∷ [])) ps None (last_in_instance (codes "type") ms) tt in
+      (name_put, (type_put, (clocks_put, (resets_put, (base_put, (bases_put, tt))))))
 
--- an object that breaks no row of a table
-abbrev pub IsGood : List Key → Data → Type 0
-IsGood ks d = (is_object d ≡ true) × (object_good ks d ≡ true)
+  abbrev whole : Data
+  whole = with_all (instance_pairs (members_of t)) (told t)
 
--- a completed part is good where the part is
-abbrev pub Stays : List Key → (Tree → Data) → Type 0
-Stays ks full = (t : Tree) → IsGood ks (told t) → IsGood ks (full t)
+  stands : (key : List ℕ) (o : Option Data) → last_at key (instance_pairs (members_of t)) ≡ o → get key whole ≡ or_else o (get key (told t))
+  stands key o last = found_in_completed key (instance_pairs (members_of t)) (told t) is ∙ ap (λ p. or_else p (get key (told t))) last
 
-completed : (ks : List Key) (ps : List Pair) (t : Tree) → IsGood ks (told t) → Puts ks ps → IsGood ks (with_all ps (told t))
-completed ks ps t good puts = (object_stays ps (told t) good.0, object_completed ks ps (told t) good.0 puts good.1)
+  instance_good : InstanceGood whole
+  instance_good =
+      let ms = members_of t in
+      record {
+        table = object_completed instance_keys (instance_pairs ms) (told t) is instance_puts good.table;
+        clocks = value_stays no_ports _ (codes "clock_srcs") t whole
+            (stands (codes "clock_srcs") (Some (value_or no_ports (value_at (codes "clock_srcs") ms))) (last_in_instance (codes "clock_srcs") ms))
+            (nothing_told _ no_ports (λ key. refl)) good.clocks;
+        resets = value_stays no_ports _ (codes "reset_connections") t whole
+            (stands (codes "reset_connections") (Some (value_or no_ports (value_at (codes "reset_connections") ms))) (last_in_instance (codes "reset_connections") ms))
+            (nothing_told _ no_ports (λ key. refl)) good.resets;
+        bases = part_stays full_base _ (codes "base_addr") t whole (stands (codes "base_addr") (option_map full_base (value_at (codes "base_addr") ms)) (last_base ms))
+            (λ v found. (face_good v (differs_at t (codes "base_addr") v differ found)).1);
+        faces = part_stays full_bases _ (codes "base_addrs") t whole (stands (codes "base_addrs") (option_map full_bases (value_at (codes "base_addrs") ms)) (last_bases ms))
+            (λ v found. faces_good v (differs_at t (codes "base_addrs") v differ found) (bases_object v found));
+      }
 
--- interrupts
-pub interrupt_stays : Stays interrupt_keys full_interrupt
-unfolding full_interrupt
-interrupt_stays t good =
-    let table = and_parts (key_good (needs (codes "name") (Name ∷ [])) (get (codes "name") (told t))) _ (table_of interrupt_keys (told t) good.0 good.1) in
-    let second = and_parts (key_good (may (codes "type") (Word InterruptType ∷ [])) (get (codes "type") (told t))) _ table.1 in
-    let third = and_parts (key_good (may (codes "width") (Number 1 32 ∷ [])) (get (codes "width") (told t))) true second.1 in
-    completed interrupt_keys
-    (pair (codes "type") (string (unwrap_or (text_at (codes "type") (members_of t)) (codes "event")))
-    ∷ pair (codes "width") (number_of (unwrap_or (number_at 0 4294967295 (codes "width") (members_of t)) 1)) ∷ []) t good
-    (tt, (type_put t second.0, (width_put 32 (omega arith) (omega arith) t third.0, tt)))
+-- of a completed instance nothing is found where nothing is of the instance
+pub instance_stays : (t u : Tree) → Differs t → Differs u → told u ≡ full_instance t → is_none (instance_faults t) ≡ true → is_none (instance_faults u) ≡ true
+unfolding full_instance
+instance_stays t u old new done none = instance_holds u (subst InstanceGood (sym done) (by_either (is_object (told t))
+    (λ is. instance_good t old is (instance_says t none))
+    (λ is. subst InstanceGood (sym (no_object_stays (instance_pairs (members_of t)) (told t) is)) (instance_says t none))))
 
--- pins
-pub pin_stays : Stays pin_keys full_pin
-unfolding full_pin
-pin_stays t good =
-    let table = and_parts (key_good (needs (codes "name") (Name ∷ [])) (get (codes "name") (told t))) _ (table_of pin_keys (told t) good.0 good.1) in
-    let second = and_parts (key_good (may (codes "width") (Number 1 64 ∷ [])) (get (codes "width") (told t))) true table.1 in
-    completed pin_keys (pair (codes "width") (number_of (unwrap_or (number_at 0 4294967295 (codes "width") (members_of t)) 1)) ∷ []) t good
-    (tt, (width_put 64 (omega arith) (omega arith) t second.0, tt))
-
-default_puts : (o : Option ℕ) → IsWord o → Puts parameter_keys (pair_if (codes "default") (option_map number_of o))
-default_puts None word = (tt, (tt, tt))
-default_puts (Some n) word = (tt, (word_fits (Text ∷ []) n (word n refl), tt))
-
--- parameters
-pub parameter_stays : Stays parameter_keys full_parameter
-unfolding full_parameter
-parameter_stays t good =
-    completed parameter_keys (pair_if (codes "default") (option_map number_of (number_at 0 4294967295 (codes "default") (members_of t)))) t good
-    (default_puts (number_at 0 4294967295 (codes "default") (members_of t)) (word_at (codes "default") (members_of t)))
-
--- alerts, which stay as they are
-pub alert_stays : Stays alert_keys full_alert
-unfolding full_alert
-alert_stays t good = good
-
--- ---- lists of parts
-
--- objects that break no row of a table
-abbrev pub all_good : List Key → List Data → Bool
-all_good ks ds = list_all is_object ds && list_all (object_good ks) ds
-
-record BothPass (ks : List Key) (ds : List Data) : Type 0 where
-  first : list_all is_object ds ≡ true
-  second : list_all (object_good ks) ds ≡ true
-
-both_stay : (ks : List Key) (full : Tree → Data) → Stays ks full → (ts : List Tree) → BothPass ks (map told ts) → BothPass ks (map full ts)
-both_stay ks full step [] both = record { first = refl; second = refl }
-both_stay ks full step (t ∷ ts) both =
-    let a = and_parts (is_object (told t)) (list_all is_object (map told ts)) both.first in
-    let b = and_parts (object_good ks (told t)) (list_all (object_good ks) (map told ts)) both.second in
-    let here = step t (a.0, b.0) in
-    let rest = both_stay ks full step ts (record { first = a.1; second = b.1 }) in
-    record { first = λ i. here.0 i && rest.first i; second = λ i. here.1 i && rest.second i }
-
--- completed parts are good where the parts are
-pub parts_stay : (ks : List Key) (full : Tree → Data) → Stays ks full → (ts : List Tree) → all_good ks (map told ts) ≡ true → all_good ks (map full ts) ≡ true
-parts_stay ks full step ts good =
-    let parts = and_parts (list_all is_object (map told ts)) (list_all (object_good ks) (map told ts)) good in
-    let both = both_stay ks full step ts (record { first = parts.0; second = parts.1 }) in
-    λ i. both.first i && both.second i
+-- and it is of the same type
+pub type_same : (t u : Tree) → told u ≡ full_instance t → type_in u ≡ type_in t
+unfolding full_instance type_in
+type_same t u done = by_object (instance_pairs (members_of t)) t u done
+    (λ is. ap (option_and_then if_name) (text_kept (codes "type") t u
+    (stands_at (instance_pairs (members_of t)) t u done is (codes "type") ∙ ap (λ o. or_else o (get (codes "type") (told t))) (last_in_instance (codes "type") (members_of t)))))
+    (λ same. ap (λ ms. option_and_then if_name (text_at (codes "type") ms)) same)

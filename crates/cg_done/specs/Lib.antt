@@ -1,4 +1,4 @@
-pub mod Full
+pub mod FullTop
 pub mod Places
 pub mod Completed
 pub mod Parts

@@ -1,37 +1,27 @@
--- The parts of completed descriptions, as the program makes them.
-use Rattle.std.specs.Prelude.{ℕ, List, [], ◌∷◌, All, Option}
+-- The parts of a top's completed description, as the program makes them.
 use Rattle.serde_json.specs.Data.{Data}
-use Rattle.cg_hjson.specs.Json.{KeysDiffer, IntegersFit}
-use Rattle.cg_hjson.specs.Views.{tree_of}
 use Rattle.cg_hjson.specs.declared.tree.Tree.{Tree}
-use Rattle.cg_hjson.specs.declared.tree.Member.{Member}
-use Rattle.cg_blkread.specs.declared.raw.RawField.{RawField}
-use Rattle.cg_done.specs.Full.{field_pairs, full_alert, full_entry, full_interrupt, full_parameter, full_pin, said_with}
+use Rattle.cg_topread.specs.Described.{base_in}
+use Rattle.cg_blkdone.specs.Full.{number_of}
+use Rattle.cg_done.specs.FullTop.{as_it_stands, full_clocks, full_instance, full_pinmux, full_pinout, full_signal, full_use}
 use Rattle.cg_done.specs.declared.lists.Part.{Part}
-use Rattle.cg_done.specs.declared.lists.Part.TheVariants.{Interrupt, Alert, Parameter, Pin, Entry}
+use Rattle.cg_done.specs.declared.lists.Part.TheVariants as part
+use Rattle.cg_done.specs.declared.sections.Section.{Section}
+use Rattle.cg_done.specs.declared.sections.Section.TheVariants as section
 
--- JSON keeps all of the value: no object has a key twice, and each integer is from -2^63 to 2^64 - 1
-pub record IsKept (t : Tree) : Type 0 where
-  pub keys : KeysDiffer (tree_of t)
-  pub integers : IntegersFit (tree_of t)
-
--- all of these are kept, and all members' values
-unfoldable pub AreKept : List Tree → Type 0
-AreKept ts = All IsKept ts
-
-unfoldable pub ValuesAreKept : List Member → Type 0
-ValuesAreKept ms = All (λ m. IsKept m.value) ms
-
--- the fields of a register, each with its tree
-unfoldable pub fields_with : Option ℕ → List RawField → List Tree → List Data
-fields_with register_resval [] ts = []
-fields_with register_resval (f ∷ fs) [] = []
-fields_with register_resval (f ∷ fs) (t ∷ ts) = said_with (field_pairs register_resval f) t ∷ fields_with register_resval fs ts
+-- a base address as a number
+abbrev pub plain_base : Tree → Data
+plain_base t = number_of (base_in t)
 
 -- a part of a list, by what it is
 abbrev pub full_by : Part → Tree → Data
-full_by Interrupt = full_interrupt
-full_by Alert = full_alert
-full_by Parameter = full_parameter
-full_by Pin = full_pin
-full_by Entry = full_entry
+full_by part.Instance = full_instance
+full_by part.Crossbar = full_use
+full_by part.Signal = full_signal
+full_by part.Named = as_it_stands
+
+-- a section of a top
+abbrev pub section_by : Section → Tree → Data
+section_by section.Clocks = full_clocks
+section_by section.Pinout = full_pinout
+section_by section.Pinmux = full_pinmux

@@ -1,69 +1,81 @@
-//! Lists of parts with everything said.
+//! Instances, crossbars and signals with everything said, and lists of them.
 
-ghost use Rattle.std.specs.Prelude.{◌≡◌, [], ◌∷◌, IfOk, codes, map};
+ghost use Rattle.std.specs.Prelude.{◌≡◌, [], ◌∷◌, IfOk, codes, map, unwrap_or};
 ghost use Rattle.serde_json.specs.View.{view};
-ghost use Rattle.cg_keys.specs.Elements.{elements};
-ghost use Rattle.cg_keys.specs.Table.{value_at};
-ghost use Rattle.cg_keys.specs.Values.{members_of, object_in};
-ghost use Rattle.cg_done.specs.Full.{entries_pairs, full_alert, full_entries, full_interrupt, full_lists, full_parameter, full_pin, list_of, list_pair, lists_in, with_all};
-ghost use Rattle.cg_done.specs.Parts.{AreKept, IsKept, ValuesAreKept, full_by};
+ghost use Rattle.cg_keys.specs.Lookups.{text_at};
+ghost use Rattle.cg_keys.specs.Values.{members_of};
+ghost use Rattle.cg_topread.specs.Described.{hart};
+ghost use Rattle.cg_blkdone.specs.Full.{list_of, list_pair, with_all};
+ghost use Rattle.cg_blkdone.specs.Parts.{AreKept, IsKept};
+ghost use Rattle.cg_done.specs.FullTop.{as_it_stands, full_instance, full_signal, full_use};
+ghost use Rattle.cg_done.specs.Parts.{full_by};
 
-use crate::entries::full_entry;
-use crate::plain::{text, truth};
-use crate::with::{said_with, with, with_word, word_or};
+use crate::bases::{with_base, with_each_base};
+use crate::values::{no_ports, said_or};
 use cg_base::Memory;
+use cg_blkdone::{said_with, text, with};
 use cg_hjson::{Member, Tree, to_json};
-use cg_keys::{elements, items, members, object, text_at, value_at};
+use cg_keys::{elements, members, text_at};
 use serde_json::Value;
 use std::alloc::Global;
 
 /// What the parts of a list are.
 #[derive(Clone, Copy)]
 pub(crate) enum Part {
-    Interrupt,
-    Alert,
-    Parameter,
-    Pin,
-    Entry,
+    Instance,
+    Crossbar,
+    Signal,
+    Named,
 }
 
-#[tactic(auto, unfolding(crate::specs::Full::full_interrupt), using(crate::proofs::InTurn::with_more))]
-fn full_interrupt(alloc: Global, tree: &Tree) -> Result<Value, Memory>
+#[tactic(auto, unfolding(crate::specs::FullTop::full_instance, crate::specs::FullTop::instance_pairs))]
+fn full_instance(alloc: Global, tree: &Tree) -> Result<Value, Memory>
     requires { IsKept tree.now }
-    ensures { IfOk result (λ v. view v ≡ full_interrupt tree.now) }
+    ensures { IfOk result (λ v. view v ≡ full_instance tree.now) }
 {
-    let members = members(tree);
-    let kind = text_at(members, "type").unwrap_or("event");
+    let clocks = said_or(alloc, tree, "clock_srcs", no_ports(alloc))?;
+    let resets = said_or(alloc, tree, "reset_connections", no_ports(alloc))?;
     let value = to_json(alloc, tree)?;
-    let value = with(alloc, value, "type", text(alloc, kind)?)?;
-    let value = with(alloc, value, "width", word_or(members, "width", 1))?;
+    let value = with(alloc, value, "clock_srcs", clocks)?;
+    let value = with(alloc, value, "reset_connections", resets)?;
+    let value = with_base(alloc, value, tree)?;
+    let value = with_each_base(alloc, value, tree)?;
     Ok(value)
 }
 
-#[tactic(auto, unfolding(crate::specs::Full::full_parameter))]
-fn full_parameter(alloc: Global, tree: &Tree) -> Result<Value, Memory>
-    requires { IsKept tree.now }
-    ensures { IfOk result (λ v. view v ≡ full_parameter tree.now) }
+/// The address space that a crossbar names, or else the one that is meant where none is named.
+fn space_of(members: &[Member]) -> &str
+    ensures { result.now ≡ unwrap_or (text_at (codes "addr_space") members.now) hart }
 {
+    text_at(members, "addr_space").unwrap_or("hart")
+}
+
+#[tactic(auto, unfolding(crate::specs::FullTop::full_use, crate::specs::FullTop::use_pairs))]
+fn full_use(alloc: Global, tree: &Tree) -> Result<Value, Memory>
+    requires { IsKept tree.now }
+    ensures { IfOk result (λ v. view v ≡ full_use tree.now) }
+{
+    let space = space_of(members(tree));
+    let sources = said_or(alloc, tree, "clock_srcs", no_ports(alloc))?;
     let value = to_json(alloc, tree)?;
-    let value = with_word(alloc, value, members(tree), "default")?;
+    let value = with(alloc, value, "addr_space", text(alloc, space)?)?;
+    let value = with(alloc, value, "clock_srcs", sources)?;
     Ok(value)
 }
 
-#[tactic(auto, unfolding(crate::specs::Full::full_pin))]
-fn full_pin(alloc: Global, tree: &Tree) -> Result<Value, Memory>
+#[tactic(auto, unfolding(crate::specs::FullTop::full_signal))]
+fn full_signal(alloc: Global, tree: &Tree) -> Result<Value, Memory>
     requires { IsKept tree.now }
-    ensures { IfOk result (λ v. view v ≡ full_pin tree.now) }
+    ensures { IfOk result (λ v. view v ≡ full_signal tree.now) }
 {
-    let width = word_or(members(tree), "width", 1);
-    let value = said_with(alloc, tree, "width", width)?;
+    let port = text_at(members(tree), "port").unwrap_or("");
+    let value = said_with(alloc, tree, "port", text(alloc, port)?)?;
     Ok(value)
 }
 
-#[tactic(auto, unfolding(crate::specs::Full::full_alert))]
-fn full_alert(alloc: Global, tree: &Tree) -> Result<Value, Memory>
+fn as_it_stands(alloc: Global, tree: &Tree) -> Result<Value, Memory>
     requires { IsKept tree.now }
-    ensures { IfOk result (λ v. view v ≡ full_alert tree.now) }
+    ensures { IfOk result (λ v. view v ≡ as_it_stands tree.now) }
 {
     let value = to_json(alloc, tree)?;
     Ok(value)
@@ -74,11 +86,10 @@ fn full_part(alloc: Global, part: Part, tree: &Tree) -> Result<Value, Memory>
     ensures { IfOk result (λ v. view v ≡ full_by part tree.now) }
 {
     match part {
-        Part::Interrupt => Ok(full_interrupt(alloc, tree)?),
-        Part::Alert => Ok(full_alert(alloc, tree)?),
-        Part::Parameter => Ok(full_parameter(alloc, tree)?),
-        Part::Pin => Ok(full_pin(alloc, tree)?),
-        Part::Entry => Ok(full_entry(alloc, tree)?),
+        Part::Instance => Ok(full_instance(alloc, tree)?),
+        Part::Crossbar => Ok(full_use(alloc, tree)?),
+        Part::Signal => Ok(full_signal(alloc, tree)?),
+        Part::Named => Ok(as_it_stands(alloc, tree)?),
     }
 }
 
@@ -95,7 +106,7 @@ fn full_list(alloc: Global, part: Part, items: &[Tree]) -> Result<Value, Memory>
 }
 
 /// A value with the list of parts that a tree has at a key, which is empty where there is none.
-#[tactic(auto, using(crate::proofs::Kept::kept_elements))]
+#[tactic(auto, using(cg_blkdone::proofs::Kept::kept_elements))]
 pub(crate) fn with_list(
     alloc: Global,
     value: Value,
@@ -109,56 +120,4 @@ pub(crate) fn with_list(
     let list = full_list(alloc, part, elements(members(tree), key))?;
     let value = with(alloc, value, key, list)?;
     Ok(value)
-}
-
-#[tactic(auto, using(crate::proofs::Kept::kept_items))]
-fn full_entries(alloc: Global, tree: &Tree) -> Result<Value, Memory>
-    requires { IsKept tree.now }
-    ensures { IfOk result (λ v. view v ≡ full_entries tree.now) }
-{
-    let value = full_list(alloc, Part::Entry, items(tree))?;
-    Ok(value)
-}
-
-fn with_lists(alloc: Global, value: Value, members: &[Member]) -> Result<Value, Memory>
-    requires { ValuesAreKept members.now }
-    ensures { IfOk result (λ v. view v ≡ with_all (entries_pairs members.now) (view value)) }
-{
-    let mut whole = value;
-    for member in members {
-        let entries = full_entries(alloc, &member.value)?;
-        whole = with(alloc, whole, member.key.as_str(), entries)?;
-    }
-    Ok(whole)
-}
-
-#[tactic(auto, using(crate::proofs::Kept::kept_members))]
-fn lists_in(alloc: Global, tree: &Tree) -> Result<Value, Memory>
-    requires { IsKept tree.now }
-    ensures { IfOk result (λ v. view v ≡ lists_in tree.now (object_in tree.now)) }
-{
-    match object(tree) {
-        Some(lists) => {
-            let value = to_json(alloc, tree)?;
-            let value = with_lists(alloc, value, lists)?;
-            Ok(value)
-        }
-        None => Ok(full_entries(alloc, tree)?),
-    }
-}
-
-/// A value with the lists of entries that a tree has.
-#[tactic(auto, unfolding(crate::specs::Full::full_lists), using(crate::proofs::Kept::kept_at, crate::proofs::InTurn::with_nothing))]
-pub(crate) fn with_registers(alloc: Global, value: Value, tree: &Tree) -> Result<Value, Memory>
-    requires { IsKept tree.now }
-    ensures { IfOk result (λ v. view v ≡ with_all (full_lists (value_at (codes "registers") (members_of tree.now))) (view value)) }
-{
-    match value_at(members(tree), "registers") {
-        Some(registers) => {
-            let lists = lists_in(alloc, registers)?;
-            let value = with(alloc, value, "registers", lists)?;
-            Ok(value)
-        }
-        None => Ok(value),
-    }
 }

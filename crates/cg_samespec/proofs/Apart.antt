@@ -12,8 +12,8 @@ use Rattle.cg_desc.specs.declared.block.BlockDesc.{BlockDesc}
 use Rattle.cg_desc.specs.Items.{items_of_block}
 use Rattle.cg_finding.specs.Finding.{Among, Finding}
 use Rattle.cg_expand.specs.Violations.{FieldNameTwice}
-use Rattle.cg_done.specs.Completed.{AreSame}
-use Rattle.cg_done.specs.Places.{field_unplaced}
+use Rattle.cg_blkdone.specs.Completed.{AreSame}
+use Rattle.cg_blkdone.specs.Places.{field_unplaced}
 use Rattle.cg_samespec.specs.Same.{FieldsAreApart, ItemIsApart, NamesApart}
 use Rattle.cg_samespec.proofs.Items.{block_items_are, item_unplaced, items_unplaced}
 use Rattle.cg_samespec.proofs.Lists.{all_among, all_changed, all_of_changed, among}

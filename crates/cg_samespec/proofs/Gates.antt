@@ -14,8 +14,8 @@ use Rattle.cg_desc.specs.Items.{items_of_block}
 use Rattle.cg_finding.specs.Finding.{Finding}
 use Rattle.cg_desc.specs.Gates.{is_gate, register_among}
 use Rattle.cg_layout.specs.Violations.{BreaksIn, HasNoRow, Violates, is_row}
-use Rattle.cg_done.specs.Completed.{AreSame}
-use Rattle.cg_done.specs.Places.{block_unplaced, face_unplaced, register_unplaced}
+use Rattle.cg_blkdone.specs.Completed.{AreSame}
+use Rattle.cg_blkdone.specs.Places.{block_unplaced, face_unplaced, register_unplaced}
 use Rattle.cg_samespec.proofs.Items.{block_items_are, item_unplaced, items_unplaced, with_fields}
 use Rattle.cg_samespec.proofs.Lists.{among, among_changed, came_of, contains, zip_changes}
 use Rattle.cg_samespec.proofs.Offsets.{offsets_placed, offsets_unplaced}

@@ -6,7 +6,7 @@ use Rattle.cg_desc.specs.declared.block.Item.{Item}
 use Rattle.cg_desc.specs.declared.block.Item.TheVariants.{Reg, Window, SkipTo, Reserved}
 use Rattle.cg_desc.specs.declared.block.LaidFace.{LaidFace}
 use Rattle.cg_hdrspec.specs.BlockHeader.{face_definitions, field_definitions, field_name, in_hexadecimal, item_definitions, mask, offset_of, prefix_of, register_definitions, reset_of, reset_word, row_definitions, row_name, window_definitions}
-use Rattle.cg_done.specs.Places.{field_unplaced, register_unplaced}
+use Rattle.cg_blkdone.specs.Places.{field_unplaced, register_unplaced}
 use Rattle.cg_samespec.proofs.Items.{item_unplaced}
 use Rattle.cg_samespec.proofs.Lists.{flat_map_blind}
 use Rattle.cg_samespec.proofs.Offsets.{laid_unplaced, row_unplaced}

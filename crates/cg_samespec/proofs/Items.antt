@@ -20,7 +20,7 @@ use Rattle.cg_desc.specs.declared.block.FaceDesc.{FaceDesc}
 use Rattle.cg_desc.specs.declared.block.FaceItems.{FaceItems}
 use Rattle.cg_desc.specs.declared.block.BlockDesc.{BlockDesc}
 use Rattle.cg_desc.specs.Items.{alert_fields, alert_registers, automatic_field, automatic_items, copies_in_word, copies_per_word, copy_bits, copy_fields, copy_gate, entry_items, has_some, interrupt_fields, interrupt_registers, items_of_block, items_of_faces, multireg_word, numbered, state_access, word_count, word_fields}
-use Rattle.cg_done.specs.Places.{alert_unplaced, block_unplaced, entry_unplaced, face_unplaced, field_unplaced, interrupt_unplaced, multireg_unplaced, register_unplaced, start, window_unplaced}
+use Rattle.cg_blkdone.specs.Places.{alert_unplaced, block_unplaced, entry_unplaced, face_unplaced, field_unplaced, interrupt_unplaced, multireg_unplaced, register_unplaced, start, window_unplaced}
 use Rattle.cg_samespec.proofs.Lists.{flat_map_changes, map_map}
 
 -- an item but for its places

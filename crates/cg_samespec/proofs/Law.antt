@@ -9,8 +9,8 @@ use Rattle.cg_desc.specs.Items.{items_of_block}
 use Rattle.cg_layout.specs.Lays.{AreLaidOut}
 use Rattle.cg_regspec.specs.RegisterModule.{register_module, register_module_name}
 use Rattle.cg_hdrspec.specs.BlockHeader.{definitions, definitions_text, face_definitions, guard_of, header_names, header_text, in_decimal, line, register_width}
-use Rattle.cg_done.specs.Completed.{AreSame}
-use Rattle.cg_done.specs.Places.{block_unplaced, face_unplaced}
+use Rattle.cg_blkdone.specs.Completed.{AreSame}
+use Rattle.cg_blkdone.specs.Places.{block_unplaced, face_unplaced}
 use Rattle.cg_samespec.specs.Laws.{SameIsLaid}
 use Rattle.cg_samespec.specs.Same.{WriteSame}
 use Rattle.cg_samespec.proofs.Apart.{same_items}

@@ -12,7 +12,7 @@ use Rattle.cg_desc.specs.declared.block.LaidRow.{LaidRow}
 use Rattle.cg_desc.specs.declared.block.LaidFace.{LaidFace}
 use Rattle.cg_regspec.specs.NetNames.{base, commit_net, equal_net, hit, next_phase_net, phase_net, rbad, rd, re, reg_re, reg_we, staged_net, state_net, update_error_net, wbad, we, window_base}
 use Rattle.cg_regspec.specs.RegisterModule.{all_equal, all_ones, answer_entries, entry_if, equals, equals_and, field_entries, field_ports, fields_entries, fields_ports, flop_of, flops_of, first_state, gap, gate_net, gate_of, gate_or, gated, has_shadow, highest_first, hit_of, item_fields, item_flops, item_gate, item_ports, item_states, item_windows, item_word_text, lacks_strobe, last_byte, last_rd, phase_flop, port_if, read_refused, register_entries, register_module, row_entries, rows_entries, rows_fields, rows_flops, rows_ports, rows_states, rows_windows, same_in_nets, second_write, shadow_entries, shown_part, staged_flop, states_of, width_of, word_parts, write_refused}
-use Rattle.cg_done.specs.Places.{field_unplaced, register_unplaced}
+use Rattle.cg_blkdone.specs.Places.{field_unplaced, register_unplaced}
 use Rattle.cg_samespec.proofs.Items.{item_unplaced, with_fields}
 use Rattle.cg_samespec.proofs.Offsets.{laid_unplaced, row_unplaced}
 

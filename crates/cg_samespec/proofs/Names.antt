@@ -10,8 +10,8 @@ use Rattle.cg_desc.specs.declared.block.BlockDesc.{BlockDesc}
 use Rattle.cg_desc.specs.Items.{items_of_block}
 use Rattle.cg_finding.specs.Finding.{Finding, finding}
 use Rattle.cg_expand.specs.Violations.{FieldNameTwice, HasTooMany, ItemNameTwice, Named, Violates, field_count, fields_in, has_name, interrupt_bits, name_of, row_count, rows_in}
-use Rattle.cg_done.specs.Completed.{AreSame}
-use Rattle.cg_done.specs.Places.{alert_unplaced, block_unplaced, field_unplaced, interrupt_unplaced, start}
+use Rattle.cg_blkdone.specs.Completed.{AreSame}
+use Rattle.cg_blkdone.specs.Places.{alert_unplaced, block_unplaced, field_unplaced, interrupt_unplaced, start}
 use Rattle.cg_samespec.specs.Same.{FieldsAreApart}
 use Rattle.cg_samespec.proofs.Apart.{FaceIsApart, no_field_twice, no_field_twice_unplaced, same_is_apart}
 use Rattle.cg_samespec.proofs.Items.{block_items_are, item_unplaced, items_unplaced}

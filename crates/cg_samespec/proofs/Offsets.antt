@@ -10,7 +10,7 @@ use Rattle.cg_desc.specs.Offsets.{Ends, HasRows, IsLaidOut, IsSpan}
 use Rattle.cg_finding.specs.Finding.{Finding}
 use Rattle.cg_layout.specs.Violations.{BreaksOffsets, IsSkipBack}
 use Rattle.cg_layout.specs.Lays.{AreLaidOut}
-use Rattle.cg_done.specs.Places.{face_unplaced}
+use Rattle.cg_blkdone.specs.Places.{face_unplaced}
 use Rattle.cg_samespec.proofs.Items.{item_unplaced, items_unplaced}
 
 -- ---- one item

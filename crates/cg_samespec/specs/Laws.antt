@@ -11,7 +11,7 @@ use Rattle.cg_hjson.specs.Views.{tree_of}
 use Rattle.cg_hjson.specs.declared.tree.Tree.{Tree}
 use Rattle.cg_blkread.specs.Described.{block_of}
 use Rattle.cg_blkread.specs.Reads.{Violates as BreaksKeysOrValues}
-use Rattle.cg_done.specs.Completed.{AreSame}
+use Rattle.cg_blkdone.specs.Completed.{AreSame}
 use Rattle.cg_samespec.specs.Same.{FieldsAreApart, WriteSame}
 
 -- A block that breaks no rule on names, counts, offsets and gates, and is laid out so.

@@ -1,8 +1,8 @@
 use Rattle.std.proofs.Common.{◌∙◌, ap}
 use Rattle.serde_json.specs.Data.{array}
 use Rattle.cg_done.specs.Parts.{full_by}
-use Rattle.cg_done.proofs.Kept.{kept_in}
-use Rattle.cg_done.proofs.Loops.{one_more, all_done}
+use Rattle.cg_blkdone.proofs.Kept.{kept_in}
+use Rattle.cg_blkdone.proofs.Loops.{one_more, all_done}
 use Rattle.cg_done.proofs.lists.full_list.Goals as goal
 
 pub full_part-requires : goal.full_part-requires

@@ -1,0 +1,4 @@
+pub mod Full
+pub mod Places
+pub mod Completed
+pub mod Parts
