@@ -14,8 +14,8 @@ use Rattle.cg_jsonspec.specs.Layout.{layout_text}
 use Rattle.cg_jsonspec.specs.Laws.{DocumentsAreSayable}
 use Rattle.cg_jsonspec.specs.ReadsBack.{ReadsBack}
 use Rattle.cg_jsonspec.specs.Said.{unplaced}
-use Rattle.cg_done.specs.Completed.{CompletedIsSame, CompletedIsSound, CompletedReadsBack, Completes, Says, completed_text}
-use Rattle.cg_done.specs.Full.{full_block}
+use Rattle.cg_blkdone.specs.Completed.{CompletedIsSame, CompletedIsSound, CompletedReadsBack, Completes, Says, completed_text}
+use Rattle.cg_blkdone.specs.Full.{full_block}
 use Rattle.cg_samespec.specs.Laws.{IsLaidSoundly, ReadFieldsAreApart, SameIsLaid}
 use Rattle.cg_samespec.specs.Same.{WriteSame}
 use Rattle.cg_files.specs.Files.{File, HasTree, some_file, limit, limit_of_all}

@@ -6,3 +6,4 @@ pub mod Once
 pub mod Again
 pub mod Differing
 pub mod Meanings
+pub mod BlockFiles

@@ -10,7 +10,7 @@ use Rattle.cg_finding.proofs.Firsts.{first_of-empty}
 use Rattle.cg_hjson.specs.declared.tree.Tree.{Tree}
 use Rattle.cg_hjson.specs.Views.{tree_of}
 use Rattle.cg_jsonspec.specs.Laws.{DocumentsAreSayable}
-use Rattle.cg_done.specs.Completed.{IsReadBlock}
+use Rattle.cg_blkdone.specs.Completed.{IsReadBlock}
 use Rattle.cg_files.specs.Files.{File, HasTree}
 use Rattle.cg_block.specs.Stages.{IsBlock}
 use Rattle.cg_blkread.specs.Described.{block_of}

@@ -10,7 +10,7 @@ use Rattle.cg_hjson.specs.declared.tree.Tree.{Tree}
 use Rattle.cg_regspec.specs.Meaning.{RegisterMeans}
 use Rattle.cg_hdrspec.specs.Meaning.{HeaderMeans}
 use Rattle.cg_jsonspec.specs.ReadsBack.{ReadsBack}
-use Rattle.cg_done.specs.Full.{full_block}
+use Rattle.cg_blkdone.specs.Full.{full_block}
 use Rattle.cg_files.specs.Files.{File, limit, limit_of_all, some_file}
 use Rattle.cg_block.specs.Outputs.{module_name_of, register_output, header_output, completed_output}
 use Rattle.cg_block.specs.Breaks.{BreaksBlock, IsGoodFile}

@@ -1,5 +1,5 @@
 -- What is written of a block, and the first name that comes twice in it.
-use Rattle.std.specs.Prelude.{◌≡◌, ℕ, List, [], ◌∷◌, ◌++◌, codes, Option, Some, None}
+use Rattle.std.specs.Prelude.{◌≡◌, ℕ, List, [], ◌∷◌, ◌++◌, codes, map, Option, Some, None}
 use Rattle.cg_svspec.specs.Layout.{module_text}
 use Rattle.cg_svspec.specs.Names.{Among, module_names, first_repeat}
 use Rattle.cg_svspec.specs.Tree.{Module}
@@ -8,7 +8,7 @@ use Rattle.cg_desc.specs.declared.block.LaidFace.{LaidFace}
 use Rattle.cg_hdrspec.specs.BlockHeader.{header_names, header_text}
 use Rattle.cg_hjson.specs.declared.tree.Tree.{Tree}
 use Rattle.cg_regspec.specs.RegisterModule.{register_module_name, module_of_face, modules_of}
-use Rattle.cg_done.specs.Completed.{completed_text}
+use Rattle.cg_blkdone.specs.Completed.{completed_text}
 use Rattle.cg_outputs.specs.declared.out_file.OutFile.{OutFile}
 
 -- ---- names
@@ -43,6 +43,10 @@ header_output laid = record { name = laid.desc.name ++ codes "_regs.h"; bytes = 
 -- the completed description of a block
 abbrev pub completed_output : Tree → LaidBlock → OutFile
 completed_output t laid = record { name = laid.desc.name ++ codes ".gen.hjson"; bytes = completed_text t }
+
+-- all that is written of a block
+abbrev pub block_files : Tree → LaidBlock → List OutFile
+block_files t laid = header_output laid ∷ completed_output t laid ∷ map (register_output laid) laid.faces
 
 -- the file is the register text of one of the block's interfaces
 pub record IsRegisterOutput (laid : LaidBlock) (o : OutFile) : Type 0 where

@@ -1,6 +1,6 @@
 ghost use Rattle.cg_block.specs.Laws.{BlockOutputsMean, RegisterTextsDiffer, GoodFileBreaksNothing, GoodFileIsOne};
 
-use cg_done::{completed_is_same, completed_is_sound, completed_reads_back};
+use cg_blkdone::{completed_is_same, completed_is_sound, completed_reads_back};
 use cg_hdrspec::block_header_means;
 use cg_jsonspec::documents_are_sayable;
 use cg_regspec::register_module_means;

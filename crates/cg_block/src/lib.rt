@@ -18,6 +18,6 @@ mod unit;
 
 pub use block::laid_block;
 pub use laws::{block_outputs_mean, one_block_or_none};
-pub use outputs::{completed_output, header_output, register_outputs};
+pub use outputs::{completed_output, header_output, put_block_outputs, register_outputs};
 pub use texts::{BlockTexts, block_texts};
 pub use unit::{BlockUnit, read_block};

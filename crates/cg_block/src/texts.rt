@@ -11,7 +11,7 @@ ghost use Rattle.cg_regspec.specs.RegisterModule.{modules_of};
 ghost use Rattle.cg_block.specs.Outputs.{first_clash, clash_of};
 
 use cg_base::{List, Text};
-use cg_chdr::{HdrClash, block_header};
+use cg_blkhdr::{HdrClash, block_header};
 use cg_desc::LaidBlock;
 use cg_sv::{Module, SvRegFault};
 use cg_svreg::reg_module;

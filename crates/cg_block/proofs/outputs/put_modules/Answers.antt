@@ -1,7 +1,7 @@
 use Rattle.cg_svspec.specs.Printable.{IsPrintable}
 use Rattle.cg_sv.specs.Views.{module_of}
 use Rattle.cg_block.proofs.Loops.{one_of, one_put}
-use Rattle.cg_block.proofs.outputs.module_outputs.Goals as goal
+use Rattle.cg_block.proofs.outputs.put_modules.Goals as goal
 
 -- each module can be printed
 pub module_output-requires : goal.module_output-requires
