@@ -2,3 +2,15 @@ mod Order
 mod Firsts
 mod Names
 mod OfFiles
+mod Rows
+mod Counting
+mod Counted
+mod Readings
+mod Once
+mod Steps
+mod OthersRead
+mod Whole
+mod Answering
+mod Designing
+mod Parts
+mod Unbroken

@@ -1,5 +1,5 @@
 -- What a stage finds first in a file of a top is what the whole file breaks first, and what is described under the right name.
-use Rattle.std.proofs.Common.{◌≡◌, ◌⊎◌, ℕ, List, [], ◌∷◌, map, Option, Some, None, Ok, Err, inl, inr, unwrap_or, refl, sym, subst, ap, ◌∙◌}
+use Rattle.std.proofs.Common.{◌≡◌, ◌⊎◌, ℕ, List, [], ◌∷◌, map, Some, None, Ok, Err, inl, inr, unwrap_or, refl, sym, subst, ap, ◌∙◌}
 use Rattle.cg_svspec.specs.Characters.{IsName}
 use Rattle.cg_desc.specs.Crossbar.{IsValidCrossbar}
 use Rattle.cg_svspec.specs.Printable.{AllOf}

@@ -1,4 +1,5 @@
 -- A name that is another one, and the earlier of a refusal and of what is found beside it.
+pub mod Reading
 use Rattle.std.specs.Prelude.{◌≡◌, ◌⊎◌, ℕ, cond, List, codes, Option, Some, None}
 use Rattle.std.specs.Str.{bytes_eq}
 use Rattle.cg_desc.specs.Faults.{Before}
