@@ -1,0 +1,22 @@
+use Rattle.cg_chip.proofs.MeaningWhole.{written_means}
+use Rattle.cg_chip.proofs.what_is_written_means.Goals as goal
+
+-- by the laws of the top's module, of texts, of modules and of headers
+pub returns : goal.returns
+returns c = written_means c.few_bits_follow.ensures
+    (record {
+      come = c.requests_come.ensures;
+      select = c.select_means.ensures;
+      errors = c.errors_answer.ensures;
+      vectors = c.vectors_hold.ensures;
+      connections = c.connections_hold.ensures;
+    })
+    (record {
+      printed = c.printed_text_stands.ensures;
+      printable = c.top_module_is_printable.ensures;
+      crossbars = c.crossbar_output_means.ensures.ranges;
+      registers = c.register_module_means.ensures;
+      headers = c.block_header_means.ensures;
+      top_header = c.top_header_is_meant.ensures;
+      meet = c.bases_and_offsets_meet.ensures;
+    })
