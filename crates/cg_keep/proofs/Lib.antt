@@ -1,0 +1,3 @@
+pub mod Wanted
+mod Building
+mod Laws
