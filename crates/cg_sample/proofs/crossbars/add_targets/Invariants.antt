@@ -1,0 +1,7 @@
+use Rattle.std.proofs.Common.{◌≡◌, ◌++◌, drop, map}
+use Rattle.cg_sample.specs.Sample.{target_line}
+use Rattle.cg_sample.proofs.crossbars.add_targets.Given as goal
+
+-- the lines so far, and then those of the devices that are left, are all
+abbrev pub invariant-loop-device : goal.invariant-loop-device
+invariant-loop-device l = l.lines ++ map target_line (drop l.device-index l.devices) ≡ l.fn.lines ++ map target_line l.devices
