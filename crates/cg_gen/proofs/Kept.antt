@@ -1,20 +1,19 @@
 -- What the store holds after its outputs are written.
 use Rattle.std.proofs.Common.{◌≡◌, ◌≢◌, ℕ, List, [], ◌∷◌, ◌++◌, map, Option, Some, refl, sym, ap, ◌∙◌, subst, inl, inr, cond}
 use Rattle.std.specs.FinMap as fin
-use Rattle.std.specs.Ordering.{nat_cmp}
-use Rattle.std.specs.Cmp.Lexicographic.{slice_cmp, nat_list_cmp_total}
-use Rattle.std.specs.declared.cmp.Ordering.TheVariants.{Less, Equal}
-use Rattle.std.proofs.lemmas.Cmp.{eq_by_cmp_equiv, tied_itself}
+use Rattle.std.specs.Cmp.Lexicographic.{nat_list_cmp_total}
+use Rattle.std.proofs.lemmas.Cmp.{eq_by_cmp_equiv}
 use Rattle.std.proofs.lemmas.List.{append_cancel_left}
 use Rattle.cg_base.specs.Outside.{Files, written_OnlyAt}
 use Rattle.cg_svspec.specs.Names.{Among}
 use Rattle.cg_outputs.specs.declared.out_file.OutFile.{OutFile}
-use Rattle.cg_outputs.specs.Outputs.{Rises, NameBefore}
+use Rattle.cg_outputs.specs.Outputs.{NamesDiffer, Rises}
 use Rattle.cg_gen.specs.declared.deed.Stream.TheVariants.{Out}
 use Rattle.cg_gen.specs.declared.deed.Deed.TheVariants.{Say}
 use Rattle.cg_gen.specs.Deeds.{after_deeds}
 use Rattle.cg_gen.specs.OneFile.{stored_name}
 use Rattle.cg_gen.specs.Due.{write_of}
+use Rattle.cg_gen.proofs.Texts.{rises_differ}
 
 -- the files after these outputs were written into a folder
 abbrev pub after : List ℕ → Files → List OutFile → Files
@@ -26,7 +25,7 @@ pub written_are : (dir line : List ℕ) (m : Files) (os : List OutFile) (out err
 written_are dir line m [] out err = refl
 written_are dir line m (o ∷ os) out err = written_are dir line (fin.insert m (stored_name dir o.name) o.bytes) os out err
 
-apart : (m : Files) (name bytes q : List ℕ) → q ≢ name → fin.get (fin.insert m name bytes) q ≡ fin.get m q
+pub apart : (m : Files) (name bytes q : List ℕ) → q ≢ name → fin.get (fin.insert m name bytes) q ≡ fin.get m q
 apart m name bytes q differ = written_OnlyAt name bytes (Some m) (Some (fin.insert m name bytes)) refl q differ
 
 -- a name that none of the outputs has is as it was
@@ -35,22 +34,23 @@ untouched dir m [] q none = refl
 untouched dir m (o ∷ os) q none =
     untouched dir (fin.insert m (stored_name dir o.name) o.bytes) os q (λ p among. none p (inr among)) ∙ apart m (stored_name dir o.name) o.bytes q (none o (inl refl))
 
-here : (m : Files) (name bytes : List ℕ) → fin.get (fin.insert m name bytes) name ≡ Some bytes
+pub here : (m : Files) (name bytes : List ℕ) → fin.get (fin.insert m name bytes) name ≡ Some bytes
 here m name bytes =
     fin.get-insert nat_list_cmp_total m name bytes name
     ∙ ap (λ b. cond b (Some bytes) (fin.get m name)) ((eq_by_cmp_equiv nat_list_cmp_total).refl name)
 
 -- names in one folder differ where the names do
-stored_apart : (dir : List ℕ) (a b : OutFile) → NameBefore a b → stored_name dir a.name ≢ stored_name dir b.name
-stored_apart dir a b before same =
-    let names : a.name ≡ b.name = append_cancel_left (47 ∷ []) a.name b.name (append_cancel_left dir _ _ same) in
-    let bad : Less ≡ Equal = sym before ∙ ap (λ n. slice_cmp nat_cmp n b.name) names ∙ tied_itself nat_list_cmp_total b.name in
-    cc
+stored_apart : (dir : List ℕ) (a b : OutFile) → ¬ (a.name ≡ b.name) → stored_name dir a.name ≢ stored_name dir b.name
+stored_apart dir a b differ same = differ (append_cancel_left (47 ∷ []) a.name b.name (append_cancel_left dir _ _ same))
 
--- each output's bytes are held
-pub kept : (dir : List ℕ) (m : Files) (os : List OutFile) (o : OutFile) → Rises os → Among o os → fin.get (after dir m os) (stored_name dir o.name) ≡ Some o.bytes
-kept dir m [] o rises among = absurd among
-kept dir m (p ∷ ps) o rises (inl is) =
+-- each output's bytes are held, where no two have one name
+pub kept_apart : (dir : List ℕ) (m : Files) (os : List OutFile) (o : OutFile) → NamesDiffer os → Among o os → fin.get (after dir m os) (stored_name dir o.name) ≡ Some o.bytes
+kept_apart dir m [] o differ among = absurd among
+kept_apart dir m (p ∷ ps) o differ (inl is) =
     subst (λ (x : OutFile). fin.get (after dir m (p ∷ ps)) (stored_name dir x.name) ≡ Some x.bytes) (sym is)
-    (untouched dir (fin.insert m (stored_name dir p.name) p.bytes) ps (stored_name dir p.name) (λ q among. stored_apart dir p q (rises.0 q among)) ∙ here m (stored_name dir p.name) p.bytes)
-kept dir m (p ∷ ps) o rises (inr there) = kept dir (fin.insert m (stored_name dir p.name) p.bytes) ps o rises.1 there
+    (untouched dir (fin.insert m (stored_name dir p.name) p.bytes) ps (stored_name dir p.name) (λ q among. stored_apart dir p q (differ.0 q among)) ∙ here m (stored_name dir p.name) p.bytes)
+kept_apart dir m (p ∷ ps) o differ (inr there) = kept_apart dir (fin.insert m (stored_name dir p.name) p.bytes) ps o differ.1 there
+
+-- so where their names rise
+pub kept : (dir : List ℕ) (m : Files) (os : List OutFile) (o : OutFile) → Rises os → Among o os → fin.get (after dir m os) (stored_name dir o.name) ≡ Some o.bytes
+kept dir m os o rises among = kept_apart dir m os o (rises_differ os rises) among

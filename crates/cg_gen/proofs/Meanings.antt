@@ -18,6 +18,7 @@ use Rattle.cg_desc.specs.declared.crossbar.XbarDesc.{XbarDesc}
 use Rattle.cg_crossbar.specs.Breaks.{IsGoodFile as GoodCrossbar}
 use Rattle.cg_crossbar.specs.Laws.{CrossbarFileMeans}
 use Rattle.cg_crossbar.proofs.Once.{good_one}
+use Rattle.cg_keep.specs.Laws.{WhatIsBuiltMeans}
 use Rattle.cg_gen.specs.declared.deed.Due.{Due}
 use Rattle.cg_gen.specs.declared.deed.Status.TheVariants.{Built, Refused, NoCommand}
 use Rattle.cg_gen.specs.Outside.{World}
@@ -36,6 +37,7 @@ use Rattle.cg_gen.specs.Meaning.{WritesMeaning, WritesOf}
 use Rattle.cg_gen.proofs.Kept.{after, written_are, untouched, kept}
 use Rattle.cg_gen.proofs.OneFile.{only_read, asked_for}
 use Rattle.cg_gen.proofs.Planning.{regtool_reads_one, tlgen_reads_one, reads_are}
+use Rattle.cg_gen.proofs.TopDue.{by_topgen}
 use Rattle.cg_gen.proofs.Units.{block_given, block_one, crossbar_given}
 
 -- each register text, the header or the completed description is held, with its meaning
@@ -114,21 +116,22 @@ by_tlgen law dir file m os good are =
 
 -- ---- all commands
 
--- the laws of blocks and of crossbars
+-- the laws of blocks, of crossbars and of tops
 pub record Laws : Type 0 where
   pub blocks : BlockOutputsMean
   pub crossbars : CrossbarFileMeans
+  pub tops : WhatIsBuiltMeans
 
 -- the files after a command's outputs are written
 writes : Laws → (c : Command) (m : Files) (reads : List Read) (os : List OutFile) → IsBuiltCommand c → GaveAll (Some m) reads → HasReadAll c reads → commands.IsGood c reads
-    → AreOutputs (commands.IsOutput c reads) os → Writes c m (after (folder_of c) m os)
+    → commands.AreWritten c reads os → Writes c m (after (folder_of c) m os)
 writes laws (Regtool made dir file) m reads os built gave has good are =
     let same = reads_are (Regtool made dir file) file (regtool_reads_one made dir file) m reads gave has in
     by_regtool laws.blocks made dir file m os (subst regtool.IsGood same good) (subst (λ rs. AreOutputs (regtool.IsOutput made rs) os) same are)
 writes laws (Tlgen file dir) m reads os built gave has good are =
     let same = reads_are (Tlgen file dir) file (tlgen_reads_one file dir) m reads gave has in
     by_tlgen laws.crossbars dir file m os (subst tlgen.IsGood same good) (subst (λ rs. AreOutputs (tlgen.IsOutput rs) os) same are)
-writes laws (Topgen file dir workers) m reads os built gave has good are = absurd built
+writes laws (Topgen file dir workers) m reads os built gave has good are = by_topgen laws.tops file dir workers m reads os gave has are
 writes laws (Session file dir workers) m reads os built gave has good are = absurd built
 writes laws (Probe dir host address) m reads os built gave has good are = absurd built
 writes laws (Sample number) m reads os built gave has good are = absurd built

@@ -1,6 +1,5 @@
 -- What is due has one status, where the files are told.
-use Rattle.std.proofs.Common.{◌≡◌, ◌⊎◌, ℕ, List, [], ◌∷◌, Option, Some, refl, sym, ap, ◌∙◌, subst, inl, inr}
-use Rattle.std.specs.FinMap as fin
+use Rattle.std.proofs.Common.{◌≡◌, ℕ, List, Some, refl, sym, ◌∙◌, subst}
 use Rattle.cg_base.specs.Outside.{Files}
 use Rattle.cg_desc.specs.declared.fault.Fault.{Fault}
 use Rattle.cg_words.specs.Words.{IsCommand}
@@ -9,30 +8,30 @@ use Rattle.cg_words.specs.declared.command.Command.TheVariants.{Regtool, Tlgen, 
 use Rattle.cg_words.specs.declared.command.RegOut.{RegOut}
 use Rattle.cg_words.proofs.ExactWords.{one_command}
 use Rattle.cg_gen.specs.declared.deed.Due.{Due}
-use Rattle.cg_gen.specs.Reads.{Read, read, GaveAll}
-use Rattle.cg_gen.specs.Commands.{IsBuiltCommand, Violates}
+use Rattle.cg_gen.specs.Reads.{Read, GaveAll}
+use Rattle.cg_gen.specs.Commands.{IsBuiltCommand, NextRead, Violates}
 use Rattle.cg_gen.specs.Due.{HasReadAll, IsDue, no_command, refuses, builds}
-use Rattle.cg_gen.proofs.Planning.{regtool_reads_one, tlgen_reads_one, reads_are}
+use Rattle.cg_gen.proofs.SameReads.{same_all}
+use Rattle.cg_gen.proofs.TopReads.{next_once}
 
--- a command's reads are determined
-pub same_reads : (m : Files) (c : Command) → IsBuiltCommand c → (reads others : List Read) → GaveAll (Some m) reads → GaveAll (Some m) others → HasReadAll c reads → HasReadAll c others
-    → reads ≡ others
-same_reads m (Regtool made dir file) built reads others gave gave' has has' =
-    let one = regtool_reads_one made dir file in
-    reads_are (Regtool made dir file) file one m reads gave has ∙ sym (reads_are (Regtool made dir file) file one m others gave' has')
-same_reads m (Tlgen file dir) built reads others gave gave' has has' =
-    let one = tlgen_reads_one file dir in
-    reads_are (Tlgen file dir) file one m reads gave has ∙ sym (reads_are (Tlgen file dir) file one m others gave' has')
-same_reads m (Topgen file dir workers) built reads others gave gave' has has' = absurd built
-same_reads m (Session file dir workers) built reads others gave gave' has has' = absurd built
-same_reads m (Probe dir host address) built reads others gave gave' has has' = absurd built
-same_reads m (Sample number) built reads others gave gave' has has' = absurd built
+-- a command's next read is determined
+read_once : (c : Command) → IsBuiltCommand c → (reads : List Read) (a b : List ℕ) → NextRead c reads a → NextRead c reads b → a ≡ b
+read_once (Regtool made dir file) built reads a b is also = is.description ∙ sym also.description
+read_once (Tlgen file dir) built reads a b is also = is.description ∙ sym also.description
+read_once (Topgen file dir workers) built reads a b is also = next_once file reads a b is also
+read_once (Session file dir workers) built reads a b is also = absurd built
+read_once (Probe dir host address) built reads a b is also = absurd built
+read_once (Sample number) built reads a b is also = absurd built
+
+-- and so are its reads
+same_reads : (m : Files) (c : Command) → IsBuiltCommand c → (reads others : List Read) → GaveAll (Some m) reads → GaveAll (Some m) others → HasReadAll c reads → HasReadAll c others → reads ≡ others
+same_reads m c built reads others gave gave' has has' = same_all c (read_once c built) m reads others gave gave' has has'
 
 -- a command with a violation is built
 pub built_of : (c : Command) (reads : List Read) (fault : Fault) → Violates c reads fault → IsBuiltCommand c
 built_of (Regtool made dir file) reads fault v = tt
 built_of (Tlgen file dir) reads fault v = tt
-built_of (Topgen file dir workers) reads fault v = absurd v
+built_of (Topgen file dir workers) reads fault v = tt
 built_of (Session file dir workers) reads fault v = absurd v
 built_of (Probe dir host address) reads fault v = absurd v
 built_of (Sample number) reads fault v = absurd v

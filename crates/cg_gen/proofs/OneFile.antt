@@ -102,7 +102,7 @@ module _ {X : Type 0} (Breaks : File → Finding → Type 0) (Describes : File �
   -- ---- what is due
 
   abbrev IsDue : List ℕ → Read → Due → Type 0
-  IsDue dir r d = IsDueFor (Violates Breaks (r ∷ [])) (IsGood Describes (r ∷ [])) (IsOutput Describes IsAskedFor (r ∷ [])) dir (r ∷ []) d
+  IsDue dir r d = IsDueFor (Violates Breaks (r ∷ [])) (IsGood Describes (r ∷ [])) (AreOutputs (IsOutput Describes IsAskedFor (r ∷ []))) dir (r ∷ []) d
 
   -- the first fault is told
   pub fault_told : (dir file : List ℕ) (g : Option (List ℕ)) (fault : Fault) (e : DescFault) (d : Due) → e ≡ refused_by fault → RefusesFirst e 0 (Breaks (only_file g))

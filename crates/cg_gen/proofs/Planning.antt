@@ -19,6 +19,13 @@ use Rattle.cg_gen.specs.declared.stop.Stop.TheVariants as stop
 use Rattle.cg_gen.specs.Inner.{IsDueFrom, PlanEnds}
 use Rattle.cg_gen.specs.Run.{Finds, NextReadFails}
 
+-- ---- behind all reads of a command
+
+-- what is due for its files is due for the words
+pub due_behind : (words : List (List ℕ)) (c : Command) (reads : List Read) (due : Due) → IsCommand words c → IsBuiltCommand c → HasReadAll c reads → IsDueFrom c reads due → IsDue words reads due
+due_behind words c reads due is built has (inner.refuses fault first same) = subst (IsDue words reads) (sym same) (refuses reads fault c is has first)
+due_behind words c reads due is built has (inner.builds outputs sound good are same) = subst (IsDue words reads) (sym same) (builds reads c outputs is built has sound good are)
+
 -- ---- a command that reads one description
 
 -- a list with an item at its end is not empty
@@ -55,20 +62,12 @@ module _ (c : Command) (file : List ℕ) (reads_one : ReadsOne c file) where
       let so = reads_one.back before next.name is in
       inr (next.given, (λ i. so.first i ++ (record { name = so.description i; given = next.given }) ∷ []))
 
-  -- what is due for the description is due for the words
-  pub described_due : (words : List (List ℕ)) (g : Option (List ℕ)) (due : Due) → IsCommand words c → IsBuiltCommand c → IsDueFrom c (read file g ∷ []) due
-      → IsDue words (read file g ∷ []) due
-  described_due words g due is built (inner.refuses fault first same) =
-      subst (IsDue words (read file g ∷ [])) (sym same) (refuses (read file g ∷ []) fault c is (has_read g) first)
-  described_due words g due is built (inner.builds outputs sound good are same) =
-      subst (IsDue words (read file g ∷ [])) (sym same) (builds (read file g ∷ []) c outputs is built (has_read g) sound good are)
-
   -- the description was read, and this is due for it
   pub planned : (words : List (List ℕ)) (files : Option Files) (asked asked' : Option (List (List ℕ))) (g : Option (List ℕ)) (due : Due)
       → IsCommand words c → IsBuiltCommand c → Gave files (read file g) → asked' ≡ also_asked asked (file ∷ []) → IsDueFrom c (read file g ∷ []) due
       → (reads : List Read) × Finds words files asked asked' reads due
   planned words files asked asked' g due is built gave told for =
-      (read file g ∷ [], record { gave = (gave, tt); asked_for = told; is_due = described_due words g due is built for })
+      (read file g ∷ [], record { gave = (gave, tt); asked_for = told; is_due = due_behind words c (read file g ∷ []) due is built (has_read g) for })
 
   -- the read of the description failed
   pub read_failed : (words : List (List ℕ)) (files : Option Files) (asked asked' : Option (List (List ℕ))) (faults faults' : ℕ)

@@ -2,42 +2,49 @@
 use Rattle.std.specs.Prelude.{ℕ, List, []}
 use Rattle.cg_base.specs.Outside.{Files}
 use Rattle.cg_desc.specs.declared.fault.Fault.{Fault}
+use Rattle.cg_outputs.specs.Outputs.{AreOutputs}
 use Rattle.cg_outputs.specs.declared.out_file.OutFile.{OutFile}
 use Rattle.cg_words.specs.declared.command.Command.{Command}
 use Rattle.cg_words.specs.declared.command.Command.TheVariants.{Regtool, Tlgen, Topgen, Session, Probe, Sample}
 use Rattle.cg_gen.specs.Reads.{Read}
 use Rattle.cg_gen.specs.Regtool as regtool
 use Rattle.cg_gen.specs.Tlgen as tlgen
+use Rattle.cg_gen.specs.Topgen as topgen
 
 -- the others are answered by the usage text
 abbrev pub IsBuiltCommand : Command → Type 0
 IsBuiltCommand (Regtool made dir file) = Unit {0}
 IsBuiltCommand (Tlgen file dir) = Unit {0}
+IsBuiltCommand (Topgen file dir workers) = Unit {0}
 IsBuiltCommand _ = ⊥
 
 -- behind these reads the command reads the file of this name next
 abbrev pub NextRead : Command → List Read → List ℕ → Type 0
 NextRead (Regtool made dir file) reads name = regtool.NextRead file reads name
 NextRead (Tlgen file dir) reads name = tlgen.NextRead file reads name
+NextRead (Topgen file dir workers) reads name = topgen.NextRead file reads name
 NextRead _ reads name = ⊥
 
 -- the files that it read break a rule
 abbrev pub Violates : Command → List Read → Fault → Type 0
 Violates (Regtool made dir file) reads fault = regtool.Violates reads fault
 Violates (Tlgen file dir) reads fault = tlgen.Violates reads fault
+Violates (Topgen file dir workers) reads fault = topgen.Violates file reads fault
 Violates _ reads fault = ⊥
 
 -- the files that it read describe what can be built
 abbrev pub IsGood : Command → List Read → Type 0
 IsGood (Regtool made dir file) reads = regtool.IsGood reads
 IsGood (Tlgen file dir) reads = tlgen.IsGood reads
+IsGood (Topgen file dir workers) reads = topgen.IsGood file reads
 IsGood _ reads = ⊥
 
--- it writes this file into its folder
-abbrev pub IsOutput : Command → List Read → OutFile → Type 0
-IsOutput (Regtool made dir file) reads o = regtool.IsOutput made reads o
-IsOutput (Tlgen file dir) reads o = tlgen.IsOutput reads o
-IsOutput _ reads o = ⊥
+-- these are all files that it writes into its folder, in the order in which it writes them
+abbrev pub AreWritten : Command → List Read → List OutFile → Type 0
+AreWritten (Regtool made dir file) reads os = AreOutputs (regtool.IsOutput made reads) os
+AreWritten (Tlgen file dir) reads os = AreOutputs (tlgen.IsOutput reads) os
+AreWritten (Topgen file dir workers) reads os = topgen.AreWritten file reads os
+AreWritten _ reads os = ⊥
 
 -- the folder of its outputs
 abbrev pub folder_of : Command → List ℕ
@@ -52,4 +59,5 @@ folder_of (Sample number) = []
 abbrev pub Writes : Command → Files → Files → Type 0
 Writes (Regtool made dir file) before after = regtool.WritesBlock made dir file before after
 Writes (Tlgen file dir) before after = tlgen.WritesCrossbar dir file before after
+Writes (Topgen file dir workers) before after = topgen.WritesTop dir file before after
 Writes _ before after = ⊥

@@ -4,7 +4,6 @@ use Rattle.std.specs.Fmt.{decimal}
 use Rattle.cg_desc.specs.FaultText.{fault_line}
 use Rattle.cg_desc.specs.declared.fault.Fault.{Fault}
 use Rattle.cg_finding.specs.Violations.{IsFirstFault}
-use Rattle.cg_outputs.specs.Outputs.{AreOutputs}
 use Rattle.cg_outputs.specs.declared.out_file.OutFile.{OutFile}
 use Rattle.cg_words.specs.Words.{IsCommand}
 use Rattle.cg_words.specs.declared.command.Command.{Command}
@@ -16,7 +15,7 @@ use Rattle.cg_gen.specs.declared.deed.Status.TheVariants.{Built, Refused, NoComm
 use Rattle.cg_gen.specs.declared.deed.Due.{Due}
 use Rattle.cg_gen.specs.Reads.{Read, name_of_file}
 use Rattle.cg_gen.specs.OneFile.{stored_name}
-use Rattle.cg_gen.specs.Commands.{IsBuiltCommand, NextRead, Violates, IsGood, IsOutput, folder_of}
+use Rattle.cg_gen.specs.Commands.{IsBuiltCommand, NextRead, Violates, IsGood, AreWritten, folder_of}
 
 -- a text as a line
 abbrev pub line : List ℕ → List ℕ
@@ -76,4 +75,4 @@ pub data IsDue (words : List (List ℕ)) : List Read → Due → Type 0 where
   refuses : (reads : List Read) (fault : Fault) (c : Command) → IsCommand words c → HasReadAll c reads → IsFirstFault (Violates c reads) fault
       → IsDue words reads (due_of_fault reads fault)
   builds : (reads : List Read) (c : Command) (outputs : List OutFile) → IsCommand words c → IsBuiltCommand c → HasReadAll c reads → ((fault : Fault) → ¬ Violates c reads fault)
-      → IsGood c reads → AreOutputs (IsOutput c reads) outputs → IsDue words reads (due_of_outputs (folder_of c) outputs)
+      → IsGood c reads → AreWritten c reads outputs → IsDue words reads (due_of_outputs (folder_of c) outputs)

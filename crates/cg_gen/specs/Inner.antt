@@ -5,7 +5,6 @@ use Rattle.cg_desc.specs.declared.fault.Fault.{Fault}
 use Rattle.cg_finding.specs.Violations.{IsFirstFault}
 use Rattle.cg_words.specs.declared.command.Command.{Command}
 use Rattle.cg_outputs.specs.declared.out_file.OutFile.{OutFile}
-use Rattle.cg_outputs.specs.Outputs.{AreOutputs}
 use Rattle.cg_files.specs.Files.{File, limit}
 use Rattle.cg_gen.specs.declared.deed.Deed.{Deed}
 use Rattle.cg_gen.specs.declared.deed.Due.{Due}
@@ -18,7 +17,7 @@ use Rattle.cg_gen.specs.declared.stop.Stop.TheVariants as stop
 use Rattle.cg_gen.specs.Outside.{Outlets}
 use Rattle.cg_gen.specs.Deeds.{Contents, contents, after_deed, after_deeds, Begun, FaultRose, StoppedAt}
 use Rattle.cg_gen.specs.Reads.{Read}
-use Rattle.cg_gen.specs.Commands.{Violates, IsGood, IsOutput, folder_of}
+use Rattle.cg_gen.specs.Commands.{Violates, IsGood, AreWritten, folder_of}
 use Rattle.cg_gen.specs.Due.{due_of_fault, due_of_outputs}
 use Rattle.cg_gen.specs.Run.{Finds, NextReadFails}
 
@@ -64,14 +63,14 @@ only_file g = record { number = 0; before = 0; given = g }
 -- ---- what is due for a command's files
 
 -- the first fault of them is told, exactly where there is one; or else the outputs are written into the folder
-pub data IsDueFor (Violates : Fault → Type 0) (Good : Type 0) (IsOutput : OutFile → Type 0) (dir : List ℕ) (reads : List Read) (due : Due) : Type 0 where
-  refuses : (fault : Fault) → IsFirstFault Violates fault → due ≡ due_of_fault reads fault → IsDueFor Violates Good IsOutput dir reads due
-  builds : (outputs : List OutFile) → ((fault : Fault) → ¬ Violates fault) → Good → AreOutputs IsOutput outputs → due ≡ due_of_outputs dir outputs
-      → IsDueFor Violates Good IsOutput dir reads due
+pub data IsDueFor (Violates : Fault → Type 0) (Good : Type 0) (AreWritten : List OutFile → Type 0) (dir : List ℕ) (reads : List Read) (due : Due) : Type 0 where
+  refuses : (fault : Fault) → IsFirstFault Violates fault → due ≡ due_of_fault reads fault → IsDueFor Violates Good AreWritten dir reads due
+  builds : (outputs : List OutFile) → ((fault : Fault) → ¬ Violates fault) → Good → AreWritten outputs → due ≡ due_of_outputs dir outputs
+      → IsDueFor Violates Good AreWritten dir reads due
 
 -- for the command behind these reads
 abbrev pub IsDueFrom : Command → List Read → Due → Type 0
-IsDueFrom c reads due = IsDueFor (Violates c reads) (IsGood c reads) (IsOutput c reads) (folder_of c) reads due
+IsDueFrom c reads due = IsDueFor (Violates c reads) (IsGood c reads) (AreWritten c reads) (folder_of c) reads due
 
 -- ---- the plan
 

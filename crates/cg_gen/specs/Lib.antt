@@ -4,8 +4,10 @@ pub mod Reads
 pub mod OneFile
 pub mod Regtool
 pub mod Tlgen
+pub mod Topgen
 pub mod Commands
 pub mod Due
 pub mod Meaning
 pub mod Run
 pub mod Inner
+pub mod Gathering

@@ -1,6 +1,6 @@
 //! A file as the store gave it.
 
-ghost use Rattle.std.specs.Prelude.{◌≡◌, [], ◌∷◌, IfOk, Err, Option, List, ℕ};
+ghost use Rattle.std.specs.Prelude.{◌≡◌, ◌≤◌, [], ◌∷◌, IfOk, Err, Option, List, ℕ};
 ghost use Rattle.cg_base.specs.Outside.{Rose, also_asked};
 ghost use Rattle.cg_gen.specs.Reads.{Gave, read};
 ghost use Rattle.cg_gen.specs.Inner.{IsGiven};
@@ -22,6 +22,7 @@ pub enum Given {
 pub fn read_file<S: Store>(alloc: Global, name: &str, store: &mut S) -> Result<Given, Stop>
     ensures gave { IfOk result (λ held. (g : Option (List ℕ)) × IsGiven held g × Gave (S.content store.old) (read name.now g)) }
     ensures rose { result ≡ Err Stop.Failed → Rose (S.read_faults store.old) (S.read_faults store.new) }
+    ensures later { S.read_faults store.old ≤ S.read_faults store.new }
     ensures asked { S.asked store.new ≡ also_asked (S.asked store.old) (name.now ∷ []) }
     ensures same { S.content store.new ≡ S.content store.old }
     ensures changes { S.change_faults store.new ≡ S.change_faults store.old }

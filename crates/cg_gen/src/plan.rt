@@ -12,9 +12,12 @@ use crate::regtool::regtool_due;
 use crate::stop::Stop;
 use crate::tlgen::tlgen_due;
 use crate::told::usage_due;
-use cg_base::{Memory, Store};
+use crate::topgen::topgen;
+use cg_base::{Gate, Memory, Steps, Store};
 use cg_words::{Command, RegOut, WordsFault, read_words};
 use std::alloc::Global;
+use std::sync::ledger::Ledger;
+use std::thread::Threads;
 
 /// `regtool`: the description is read, and its first fault is told or its outputs are written.
 fn regtool<S: Store>(
@@ -66,17 +69,34 @@ fn usage(alloc: Global) -> Result<Due, Stop>
 }
 
 /// What is due for the words. Words of a command that is not built are answered like words that are none.
-pub fn plan<S: Store>(alloc: Global, words: &[String], store: &mut S) -> Result<Due, Stop>
+pub fn plan<R: Threads + Sync, S: Store, G: Gate + Sync, L: Ledger>(
+    rt: &R,
+    alloc: Global,
+    words: &[String],
+    store: &mut S,
+    gate: &G,
+    steps: &mut Steps<L>,
+) -> Result<Due, Stop>
     ensures ends { PlanEnds result (map string_bytes words.now) (S.content store.old) (S.asked store.old) (S.asked store.new) (S.read_faults store.old) (S.read_faults store.new) }
     ensures same { S.content store.new ≡ S.content store.old }
     ensures changes { S.change_faults store.new ≡ S.change_faults store.old }
+    ensures steps { steps.new ≡ steps.old }
 {
     match read_words(alloc, words) {
         Ok(Command::Regtool { made, dir, file }) => {
             regtool(alloc, made, dir.as_str(), file.as_str(), store)
         }
         Ok(Command::Tlgen { file, dir }) => tlgen(alloc, file.as_str(), dir.as_str(), store),
-        Ok(Command::Topgen { .. }) => usage(alloc),
+        Ok(Command::Topgen { file, dir, workers }) => topgen(
+            rt,
+            alloc,
+            file.as_str(),
+            dir.as_str(),
+            workers,
+            store,
+            gate,
+            steps,
+        ),
         Ok(Command::Session { .. }) => usage(alloc),
         Ok(Command::Probe { .. }) => usage(alloc),
         Ok(Command::Sample { .. }) => usage(alloc),

@@ -1,14 +1,18 @@
 use Rattle.cg_gen.proofs.Planning.{not_built, usage_ends}
+use Rattle.cg_gen.proofs.TopPlan.{few_workers, some_worker}
 use Rattle.cg_gen.proofs.plan.plan.Goals as goal
 
--- the words are a command that is not built
-pub returns-in-Ok-Topgen-clause-ends : goal.returns-in-Ok-Topgen-clause-ends
-returns-in-Ok-Topgen-clause-ends g c =
-    usage_ends _ _ _ _ c.usage.result (not_built _ _ (rw c.in-Ok-Topgen.field-0-is at c.in-Ok-Topgen.ensures) (λ built. built)) c.usage.ensures.due c.usage.ensures.memory
+-- there are workers, and not too many
+pub topgen-requires-clause-some : goal.topgen-requires-clause-some
+topgen-requires-clause-some g c κs lives = some_worker _ c.in-Ok-Topgen.file c.in-Ok-Topgen.dir c.in-Ok-Topgen.workers (rw c.in-Ok-Topgen.field-0-is at c.in-Ok-Topgen.ensures)
 
+pub topgen-requires-clause-few : goal.topgen-requires-clause-few
+topgen-requires-clause-few g c κs lives = few_workers _ c.in-Ok-Topgen.file c.in-Ok-Topgen.dir c.in-Ok-Topgen.workers (rw c.in-Ok-Topgen.field-0-is at c.in-Ok-Topgen.ensures)
+
+-- the words are a command that is not built
 pub returns-in-Ok-Session-clause-ends : goal.returns-in-Ok-Session-clause-ends
 returns-in-Ok-Session-clause-ends g c =
-    usage_ends _ _ _ _ c.usage-in-Ok-Session.result (not_built _ _ (rw c.in-Ok-Session.field-0-is at c.in-Ok-Session.ensures) (λ built. built)) c.usage-in-Ok-Session.ensures.due c.usage-in-Ok-Session.ensures.memory
+    usage_ends _ _ _ _ c.usage.result (not_built _ _ (rw c.in-Ok-Session.field-0-is at c.in-Ok-Session.ensures) (λ built. built)) c.usage.ensures.due c.usage.ensures.memory
 
 pub returns-in-Ok-Probe-clause-ends : goal.returns-in-Ok-Probe-clause-ends
 returns-in-Ok-Probe-clause-ends g c =
