@@ -7,7 +7,7 @@ use std::alloc::Global;
 use std::thread::Threads;
 
 /// The bytes of a text in which `‹ff›` is a byte by its digits.
-fn bytes_of(alloc: Global, text: &str) -> Result<Vec<u8>, Memory> {
+pub fn bytes_of(alloc: Global, text: &str) -> Result<Vec<u8>, Memory> {
     let mut bytes = Vec::new(alloc);
     for piece in text.split('‹') {
         let Some((digits, rest)) = piece.split_once('›') else {

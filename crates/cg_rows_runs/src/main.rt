@@ -9,6 +9,7 @@ mod noted;
 mod running;
 mod runs;
 mod texts;
+mod tops;
 
 use cg_base::Memory;
 use cg_table::{Tables, ended};
@@ -36,6 +37,15 @@ fn told<R: Files + Threads + Sync>(rt: &R, alloc: Global) -> Result<String, Memo
     })?;
     tables.tell("runs.txt", |alloc, given| runs::answer(rt, alloc, given))?;
     tables.tell("texts.txt", |alloc, given| texts::answer(rt, alloc, given))?;
+    tables.tell("top_rules.txt", |alloc, given| {
+        tops::answer(rt, alloc, given)
+    })?;
+    tables.tell("top_runs.txt", |alloc, given| {
+        tops::answer(rt, alloc, given)
+    })?;
+    tables.tell("top_texts.txt", |alloc, given| {
+        tops::texts(rt, alloc, given)
+    })?;
     Ok(tables.told())
 }
 

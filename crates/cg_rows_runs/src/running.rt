@@ -59,20 +59,21 @@ fn run_counted<L: Ledger, R: Threads + Sync>(
     );
 }
 
-/// Runs the words of a line on the store, `bad` being the calls of the output that are to fail.
+/// Runs the words of a line on the store, where these calls of the output and of the error stream are to fail.
 pub fn ran_on<R: Threads + Sync>(
     rt: &R,
     alloc: Global,
     line: &str,
     store: NotedStore,
-    bad: List<u64>,
+    bad_outputs: List<u64>,
+    bad_errors: List<u64>,
 ) -> Result<Ran, Memory> {
     let words = words_of(alloc, line)?;
     let mut ran = Ran {
         status: 255,
         store,
-        out: MemSink::new(alloc, bad),
-        err: MemSink::new(alloc, List::new(alloc)),
+        out: MemSink::new(alloc, bad_outputs),
+        err: MemSink::new(alloc, bad_errors),
     };
     run_counted::<Brand, _>(rt, alloc, &words, &mut ran, Blank::new(1));
     Ok(ran)
@@ -88,7 +89,7 @@ pub fn ran_over<R: Threads + Sync>(
 ) -> Result<Ran, Memory> {
     let mut store = NotedStore::new(alloc, List::new(alloc), List::new(alloc));
     store.add(name, bytes)?;
-    ran_on(rt, alloc, line, store, List::new(alloc))
+    ran_on(rt, alloc, line, store, List::new(alloc), List::new(alloc))
 }
 
 /// Adds what stands on a stream, under the stream's name.

@@ -7,7 +7,7 @@ use std::alloc::Global;
 use std::thread::Threads;
 
 /// The numbers of the calls of this kind that are to fail, counted from 1.
-fn bad_calls(alloc: Global, file: &str, kind: &str) -> Result<List<u64>, Memory> {
+pub fn bad_calls(alloc: Global, file: &str, kind: &str) -> Result<List<u64>, Memory> {
     let mut calls = List::new(alloc);
     for word in file.split(' ') {
         if let Some(number) = word.strip_prefix(kind) {
@@ -28,6 +28,6 @@ pub fn answer<R: Threads + Sync>(rt: &R, alloc: Global, given: &str) -> Result<S
     let name = file.split(' ').next().unwrap_or("");
     store.add(name, text.as_bytes())?;
     let bad_outputs = bad_calls(alloc, file, "bad_output=")?;
-    let ran = ran_on(rt, alloc, words, store, bad_outputs)?;
+    let ran = ran_on(rt, alloc, words, store, bad_outputs, List::new(alloc))?;
     spelled(alloc, &ran)
 }

@@ -2,9 +2,9 @@
 
 use crate::blocks::line;
 use cg_base::{Memory, Text};
+use cg_blkdone::done_block;
 use cg_blkread::block;
 use cg_desc::DescFault;
-use cg_done::done_block;
 use cg_files::tree_of;
 use cg_jsonspec::documents_are_sayable;
 use std::alloc::Global;

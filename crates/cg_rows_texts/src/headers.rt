@@ -2,7 +2,7 @@
 
 use crate::blocks::{laid, line};
 use cg_base::Memory;
-use cg_chdr::{Constant, HdrClash, HdrFault, block_header, read};
+use cg_blkhdr::{Constant, HdrClash, HdrFault, block_header, read};
 use std::alloc::Global;
 
 /// How many bytes a text that is read as a header has at most.

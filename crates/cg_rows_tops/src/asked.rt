@@ -257,20 +257,9 @@ fn answers(alloc: Global, top: &MergedTop, asked: &str) -> Result<String, DescFa
     Ok(all_shown(alloc, top, rows.as_slice(), asked)?)
 }
 
-/// The line of a fault of rule 57, for which `fault_text` has no phrase.
-fn line_of_space(alloc: Global, file: &str, fault: &Fault) -> Result<String, Memory> {
-    let line = fault.at.line;
-    let column = fault.at.column;
-    let name = &fault.name;
-    Ok(format!(in alloc; "{file}:{line}:{column}: fault 57: bad space: {name}")?)
-}
-
 /// The line of a fault.
 fn line_of(alloc: Global, build: &Build, fault: &Fault) -> Result<String, Memory> {
     let file = build.name_of(fault.file);
-    if fault.rule == 57 {
-        return line_of_space(alloc, file, fault);
-    }
     let line = fault_text(alloc, fault, file)?;
     Ok(String::from_str(alloc, line.as_str())?)
 }

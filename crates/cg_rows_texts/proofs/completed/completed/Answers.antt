@@ -1,4 +1,4 @@
-use Rattle.cg_done.proofs.ReadBlocks.{described_by_file}
+use Rattle.cg_blkdone.proofs.ReadBlocks.{described_by_file}
 use Rattle.cg_rows_texts.proofs.completed.completed.Goals as goal
 
 pub done_block-requires-clause-described : goal.done_block-requires-clause-described
