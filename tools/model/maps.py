@@ -57,17 +57,22 @@ def rows(whole: Whole) -> list[Row]:
     return made
 
 
-def at(whole: Whole, crossbar: Crossbar, host: Node, address: int) -> str:
-    """What stands at an address for a host: from crossbar to crossbar, into the device whose range has the address."""
+def device_at(whole: Whole, crossbar: Crossbar, host: Node, address: int) -> tuple[Crossbar, Node] | None:
+    """The device that a host reaches at an address, if any: from crossbar to crossbar, to the one whose range has the address."""
     for device in host.to:
         inner = whole.partner(crossbar, device)
-        if not any(base <= address < base + size for base, size in whole.ranges(crossbar, device)):
-            continue
-        if inner is not None:
-            return at(whole, *inner, address)
-        named = whole.named(device)
-        return f"outside {crossbar.name}/{device.name}" if named is None else in_face(whole, *named, address)
-    return "error"
+        if any(base <= address < base + size for base, size in whole.ranges(crossbar, device)):
+            return (crossbar, device) if inner is None else device_at(whole, *inner, address)
+    return None
+
+
+def at(whole: Whole, crossbar: Crossbar, host: Node, address: int) -> str:
+    """What stands at an address for a host."""
+    found = device_at(whole, crossbar, host, address)
+    if found is None:
+        return "error"
+    named = whole.named(found[1])
+    return f"outside {found[0].name}/{found[1].name}" if named is None else in_face(whole, *named, address)
 
 
 def in_face(whole: Whole, instance: Instance, face: int, address: int) -> str:
