@@ -5,7 +5,7 @@ mod Firsts
 mod Pairs
 mod ListedFacts
 mod PartFacts
-mod TopFacts
+pub mod TopFacts
 mod Rising
 mod Values
 mod ValidBases

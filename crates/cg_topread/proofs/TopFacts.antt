@@ -81,7 +81,8 @@ in_crossbars opener ms f among =
       ]
     ]
 
-in_top_faults : (t : Tree) (f : Finding) → In f (top_faults t) → Violates t f
+-- what is found is broken
+pub in_top_faults : (t : Tree) (f : Finding) → In f (top_faults t) → Violates t f
 unfolding top_faults
 in_top_faults t f among =
     let ms = members_of t in
@@ -143,7 +144,8 @@ part_of opener ms f (fact.in_crossbar w) =
     in_uses (in_right f (length_faults 0 16 (codes "xbar") ms) _ (in_right f (element_faults (codes "xbar") ms) _
     (elements_have BreaksUse use_faults ms (codes "xbar") f (use_has f) w)))
 
-top_faults_have : (t : Tree) (f : Finding) → Violates t f → In f (top_faults t)
+-- what is broken is found
+pub top_faults_have : (t : Tree) (f : Finding) → Violates t f → In f (top_faults t)
 unfolding top_faults
 top_faults_have t f (fact.duplicate d) = in_left f (duplicate_faults t) _ (duplicate_faults_has t f d)
 top_faults_have t f (fact.top breaks) = in_right f (duplicate_faults t) _ (by (part_of t.at (members_of t) f breaks))
