@@ -11,6 +11,7 @@ mod Computed
 mod Built
 mod Tops
 pub mod MeaningModules
+pub mod MeaningOrder
 pub mod MeaningBlocks
 pub mod MeaningTop
 pub mod MeaningClashes

@@ -25,8 +25,15 @@ use Rattle.cg_topspec.specs.Modules.{HasCrossbarModule, HasModules, HasRegisterM
 use Rattle.cg_topspec.specs.Top.{crossbar_of, no_crossbar}
 use Rattle.cg_topspec.specs.TopModule.{top_module, top_module_name}
 use Rattle.cg_chip.specs.Chip.{AreRangesOfAll}
-use Rattle.cg_chip.specs.Meaning.{crossbar_modules}
 use Rattle.cg_chip.specs.declared.chip.XbarRanges.{XbarRanges}
+
+-- ---- the list
+
+-- the modules of the crossbars
+abbrev pub crossbar_modules : List XbarDesc → List XbarRanges → List Module
+crossbar_modules [] rs = []
+crossbar_modules (x ∷ xs) [] = []
+crossbar_modules (x ∷ xs) (r ∷ rs) = crossbar_module (with_ranges x r.ranges) ∷ crossbar_modules xs rs
 
 -- ---- names of modules
 
@@ -68,7 +75,7 @@ block_names (b ∷ bs) = names_join (modules_of b) (flat_map modules_of bs) ∙ 
 
 -- ---- modules of the list
 
-crossbar_among : (xs : List XbarDesc) (rs : List XbarRanges) (x : ℕ) (xbar : XbarDesc) (r : XbarRanges) → slice_get xs x ≡ Some xbar → slice_get rs x ≡ Some r
+pub crossbar_among : (xs : List XbarDesc) (rs : List XbarRanges) (x : ℕ) (xbar : XbarDesc) (r : XbarRanges) → slice_get xs x ≡ Some xbar → slice_get rs x ≡ Some r
     → Among (crossbar_module (with_ranges xbar r.ranges)) (crossbar_modules xs rs)
 crossbar_among [] rs x xbar r is ranges_are = absurd (nothing_there x is) where
   nothing_there : (x : ℕ) → slice_get {X = XbarDesc} [] x ≡ Some xbar → ⊥
@@ -143,6 +150,11 @@ module _ (m : MergedTop) (numbers : IrqMap) (ties : List Tie) (pins : PinMap) (a
       further : Among n (crossbar_module_names m) ⊎ Among n (flat_map register_names m.blocks) → ⊥
       further (inl x) = differ_across n (crossbar_module_names m) (type_names m ++ flat_map register_names m.blocks) others_differ x (in_front n (type_names m) _ t)
       further (inr r) = differ_across n (type_names m) (flat_map register_names m.blocks) (differ_back (crossbar_module_names m) _ others_differ) t r
+
+  -- each module is what its name finds
+  pub finds_each : (its : Module) → Among its (top_module m numbers ties pins ∷ (crossbar_modules m.xbars all ++ flat_map modules_of m.blocks))
+      → module_named (top_module m numbers ties pins ∷ (crossbar_modules m.xbars all ++ flat_map modules_of m.blocks)) its.name ≡ Some its
+  finds_each = found_by_name (top_module m numbers ties pins ∷ behind) modules_differ
 
   module _ (apart : AreApart m all) where
     has_crossbar : (x : ℕ) → x < length m.xbars → HasCrossbarModule m (top_module m numbers ties pins ∷ behind) x

@@ -1,7 +1,13 @@
 -- What the texts of a top stand for, and what its headers say.
-use Rattle.std.proofs.Common.{List, ℕ, arith}
+use Rattle.std.proofs.Common.{List, [], ℕ, arith, ◌∷◌}
+use Rattle.cg_busspec.specs.CrossbarMeaning.{CrossbarMeans}
+use Rattle.cg_busspec.specs.Laws.{CrossbarModuleMeans}
+use Rattle.cg_outputs.specs.declared.out_file.OutFile.{OutFile}
+use Rattle.cg_svspec.specs.Layout.{module_text}
 use Rattle.cg_svspec.specs.Names.{Among}
-use Rattle.cg_svspec.specs.Stands.{PrintedTextStands}
+use Rattle.cg_svspec.specs.Stands.{PrintedTextStands, Stands}
+use Rattle.cg_svspec.specs.Tree.{Module}
+use Rattle.cg_svspec.specs.WellFormed.{WellFormed}
 use Rattle.cg_desc.proofs.Numbered.{item_among}
 use Rattle.cg_desc.specs.Crossbar.{IsValidCrossbar}
 use Rattle.cg_desc.specs.Laid.{IsLaid}
@@ -24,25 +30,24 @@ use Rattle.cg_tophdr.specs.Laws.{BasesAndOffsetsMeet, NumbersFit, TopHeaderIsMea
 use Rattle.cg_topspec.proofs.EachItem.{each_item}
 use Rattle.cg_topspec.proofs.Shapes.{node_ranges_fit}
 use Rattle.cg_topspec.specs.Fits.{FitsTop}
-use Rattle.cg_topspec.specs.WellFormed.{HasFewBits, TopModuleIsPrintable}
-use Rattle.cg_block.specs.Meaning.{RegisterTextMeans}
+use Rattle.cg_topspec.specs.WellFormed.{HasFewBits, TopModuleIsPrintable, TopModuleIsWellFormed}
 use Rattle.cg_block.specs.Outputs as block
-use Rattle.cg_crossbar.specs.Laws.{CrossbarOutputMeans}
-use Rattle.cg_crossbar.specs.Meaning.{CrossbarTextMeans}
 use Rattle.cg_crossbar.specs.Outputs as crossbar
 use Rattle.cg_chip.specs.Chip.{IsChip}
-use Rattle.cg_chip.specs.Meaning.{HeadersAgree, TextsStand, first_module}
+use Rattle.cg_chip.specs.Meaning.{HeadersAgree, IsBehind, TextsStand, first_module, of_crossbar, of_interface}
 use Rattle.cg_chip.specs.Outputs.{IsBlock, IsCrossbar}
 use Rattle.cg_chip.specs.declared.chip.Chip.{Chip}
 use Rattle.cg_chip.specs.declared.chip.XbarRanges.{XbarRanges}
 use Rattle.cg_chip.proofs.MeaningBlocks.{block_valid, faces_named, module_named_well}
 use Rattle.cg_chip.proofs.MeaningClashes.{HasNoClash}
+use Rattle.cg_chip.proofs.MeaningOrder.{are_in_order, in_order}
 
 -- the laws of printed texts, of modules and of headers
 pub record TextLaws : Type 0 where
   pub printed : PrintedTextStands
   pub printable : TopModuleIsPrintable
-  pub crossbars : CrossbarOutputMeans
+  pub well_formed : TopModuleIsWellFormed
+  pub crossbars : CrossbarModuleMeans
   pub registers : RegisterModuleMeans
   pub headers : BlockHeaderMeans
   pub top_header : TopHeaderIsMeant
@@ -65,29 +70,40 @@ module _ (laws : TextLaws) (files : List File) (c : Chip) (is : IsChip files c) 
   merged : IsMerged c.source.merged
   merged = is.merged.merged
 
-  crossbar_means : (x : ℕ) (xbar : XbarDesc) (ranges : XbarRanges) → IsCrossbar c x xbar ranges → CrossbarTextMeans xbar ranges.ranges (crossbar.crossbar_output xbar ranges.ranges).bytes
+  crossbar_means : (x : ℕ) (xbar : XbarDesc) (ranges : XbarRanges) → IsCrossbar c x xbar ranges → CrossbarMeans (crossbar.module_of_crossbar xbar ranges.ranges) xbar ranges.ranges
   crossbar_means x xbar ranges at =
       let valid : IsValidCrossbar xbar = all_at IsValidCrossbar c.source.merged.xbars x xbar merged.crossbars at.is in
       laws.crossbars xbar ranges.ranges valid
       (node_ranges_fit c.source.merged is.spaced x xbar ranges.ranges at.is valid (is.ranges.each x ranges at.ranges_are))
       (none.crossbars x xbar ranges at)
 
-  register_means : (b : LaidBlock) (face : LaidFace) → Among b c.source.merged.blocks → Among face b.faces → RegisterTextMeans b face (block.register_output b face).bytes
+  register_means : (b : LaidBlock) (face : LaidFace) → Among b c.source.merged.blocks → Among face b.faces
+      → RegisterMeans (register_module_name b.desc.name face.name) (module_of_face b face) face
   register_means b face among there =
       let valid : IsValidLaidBlock b = block_valid c.source.merged merged b among in
       let good = each_item (λ (l : LaidFace). IsNameIfAny l.name × IsLaid l) b.faces (faces_named b valid) face there in
-      let acts : RegisterMeans (register_module_name b.desc.name face.name) (module_of_face b face) face =
-      laws.registers (register_module_name b.desc.name face.name) face (module_named_well b.desc.name face.name valid.block.name good.0) good.1 (none.modules b face among there) in
-      record { module_of_text = module_of_face b face; stands = laws.printed (module_of_face b face) acts.well_formed.printable; acts = acts }
+      laws.registers (register_module_name b.desc.name face.name) face (module_named_well b.desc.name face.name valid.block.name good.0) good.1 (none.modules b face among there)
 
   block_among : (k : ℕ) (laid : LaidBlock) (tree : Tree) → IsBlock c k laid tree → Among laid c.source.merged.blocks
   block_among k laid tree at = item_among c.source.merged.blocks k laid at.is
 
+  -- a printed module that is well formed is what its text stands for
+  stands_alone : (m : Module) → WellFormed m → Stands (module_text m) (m ∷ []) × WellFormed m
+  stands_alone m fits = (laws.printed m fits.printable, fits)
+
+  behind_stand : (o : OutFile) (m : Module) → IsBehind c o m → Stands o.bytes (m ∷ []) × WellFormed m
+  behind_stand _ _ (of_crossbar x xbar ranges at) = stands_alone (crossbar.module_of_crossbar xbar ranges.ranges) (crossbar_means x xbar ranges at).well_formed
+  behind_stand _ _ (of_interface k laid tree face at there) =
+      stands_alone (module_of_face laid face) (register_means laid face (block_among k laid tree at) there).well_formed
+
   pub texts_stand : FitsTop c.source.merged c.irq c.ties c.pins → TextsStand c
   texts_stand fits = record {
     top = laws.printed (first_module c) (laws.printable c.source.merged c.irq c.ties c.pins fits few);
+    top_fits = laws.well_formed c.source.merged c.irq c.ties c.pins fits few none.lists;
+    behind = behind_stand;
     crossbars = crossbar_means;
     interfaces = λ k laid tree face at there. register_means laid face (block_among k laid tree at) there;
+    listed = (in_order c, are_in_order c is.trees.count);
   }
 
   header_means : (b : LaidBlock) → Among b c.source.merged.blocks → HeaderMeans b (block.header_output b).bytes
