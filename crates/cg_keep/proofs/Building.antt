@@ -20,10 +20,12 @@ use Rattle.cg_design.specs.Breaks.{BreaksTopFile, DescribesTop}
 use Rattle.cg_design.specs.Design.{IsTop}
 use Rattle.cg_design.specs.Laws.{MergedBreaksNothing}
 use Rattle.cg_design.specs.Files.{FileIs, block_file, crossbar_file, given_file, named_files, numbered}
+use Rattle.cg_design.specs.Violations.{IsSourceOf}
 use Rattle.cg_design.specs.Violations as design
+use Rattle.cg_design.specs.declared.together.DesignSource.{DesignSource}
 use Rattle.cg_chip.specs.Violations as chip
 use Rattle.cg_keep.specs.Files.{AreFilesOf, AreWanted, Violates, files_named, top_alone, all}
-use Rattle.cg_keep.specs.Kept.{Builds}
+use Rattle.cg_keep.specs.Kept.{Builds, Describes, IsDescribed}
 use Rattle.cg_keep.proofs.Wanted.{builds_there, described_unbroken, first_there}
 
 -- ---- a top's own file that breaks a rule by itself
@@ -67,6 +69,25 @@ module _ (given : Option (List ℕ)) (f : Finding) (broken : BreaksTopFile (give
     least = λ fault v before. let b = alone fault v in first.least 0 b.0 b.1 (subst (λ x. Before x (in_file 0 f)) b.2 before);
   }
 
+-- ---- stages
+
+-- what the files break up to the ranges is first of all that they break
+pub design_refused : MergedBreaksNothing → (e : DescFault) (files : List File) → design.Merges (Err e) files → chip.Builds (Err e) files
+design_refused law (refusal.Fault fault) files first = record { violates = chip.design first.violates; least = least } where
+  least : (other : Fault) → chip.Violates files other → ¬ Before other fault
+  least _ (chip.design {f = other} is) = first.least other is
+  least _ (chip.numbers m is breaks) = absurd (law files m is.merged is.spaced fault first.violates)
+  least _ (chip.sources m is breaks) = absurd (law files m is.merged is.spaced fault first.violates)
+  least _ (chip.pins m is breaks) = absurd (law files m is.merged is.spaced fault first.violates)
+  least _ (chip.top_names c name is twice) = absurd (law files c.source.merged is.merged is.spaced fault first.violates)
+  least _ (chip.crossbar_names c x xbar ranges name is at twice) = absurd (law files c.source.merged is.merged is.spaced fault first.violates)
+  least _ (chip.block_names c k laid tree name is at twice) = absurd (law files c.source.merged is.merged is.spaced fault first.violates)
+design_refused law refusal.Memory files r = tt
+
+pub chip_refused : (e : DescFault) (files : List File) → chip.Computes (Err e) files → chip.Builds (Err e) files
+chip_refused (refusal.Fault fault) files first = first
+chip_refused refusal.Memory files r = tt
+
 module _ (top : List ℕ) (files : Files) where
   -- its own file is all that is wanted
   alone_wanted : (given : Option (List ℕ)) (f : Finding) → fin.get files top ≡ given → BreaksTopFile (given_file 0 0 given) f → AreFilesOf top files (given_file 0 0 given ∷ [])
@@ -93,11 +114,34 @@ module _ (top : List ℕ) (files : Files) where
     are = (λ i. numbered (sym is i ∷ (given_so ∙ ap (map (fin.get files)) named) i));
   }
 
-  -- what is built of its files, as they are given
-  pub built_of : (given : Option (List ℕ)) (t : Tree) (d : TopDesc) (types names : List (List ℕ)) (others : List (Option (List ℕ))) → fin.get files top ≡ given → DescribesTop (given_file 0 0 given) t d
-      → AreTypes d.insts types → names ≡ named_files d types → others ≡ map (fin.get files) names → (r : Result (List OutFile) DescFault) → chip.Builds r (numbered (given ∷ others)) → Builds r top files
-  built_of given t d types names others is describes are_types named given_so r builds =
-      builds_there top files (numbered (given ∷ others)) (all_wanted given t d types names others is describes are_types named given_so) r builds
+  -- a refusal is the same of a build and of what is described
+  pub refused_so : (e : DescFault) → Builds (Err e) top files → Describes (Err e) top files
+  refused_so (refusal.Fault fault) first = first
+  refused_so refusal.Memory r = tt
+
+  pub refuses_so : (e : DescFault) → Describes (Err e) top files → Builds (Err e) top files
+  refuses_so (refusal.Fault fault) first = first
+  refuses_so refusal.Memory r = tt
+
+  -- what its files describe together, as they are given
+  pub described_of : MergedBreaksNothing → (given : Option (List ℕ)) (t : Tree) (d : TopDesc) (types names : List (List ℕ)) (others : List (Option (List ℕ))) → fin.get files top ≡ given
+      → DescribesTop (given_file 0 0 given) t d → AreTypes d.insts types → names ≡ named_files d types → others ≡ map (fin.get files) names → (r : Result DesignSource DescFault)
+      → design.Merges r (numbered (given ∷ others)) → Describes r top files
+  described_of law given t d types names others is describes are_types named given_so r merges = by r merges where
+    are : AreFilesOf top files (numbered (given ∷ others))
+    are = all_wanted given t d types names others is describes are_types named given_so
+
+    by : (r : Result DesignSource DescFault) → design.Merges r (numbered (given ∷ others)) → Describes r top files
+    by (Ok source) is_source = record { own = numbered (given ∷ others); are = are; is_source = is_source }
+    by (Err e) first = refused_so e (builds_there top files (numbered (given ∷ others)) are (Err e) (design_refused law e (numbered (given ∷ others)) first))
+
+  -- what is built of what they describe
+  pub built_of : (source : DesignSource) (r : Result (List OutFile) DescFault) → IsDescribed top files source
+      → ((given : List (Option (List ℕ))) → IsSourceOf (numbered given) source → chip.Builds r (numbered given)) → Builds r top files
+  built_of source r described builds =
+      builds_there top files described.own described.are r
+      (subst (chip.Builds r) (sym described.are.are)
+      (builds (map (fin.get files) described.are.names) (subst (λ own. IsSourceOf own source) described.are.are described.is_source)))
 
 -- ---- how many other files there are
 
@@ -110,22 +154,3 @@ pub others_count : {X : Type 0} (given : X → Option (List ℕ)) (others : List
     → map given others ≡ map (fin.get files) names → names ≡ named_files d types → length others ≡ length d.xbars + length types
 others_count given others files names d types same named =
     sym (length-map others given) ∙ ap length same ∙ length-map names (fin.get files) ∙ ap length named ∙ named_count d types
-
--- ---- stages
-
--- what the files break up to the ranges is first of all that they break
-pub design_refused : MergedBreaksNothing → (e : DescFault) (files : List File) → design.Merges (Err e) files → chip.Builds (Err e) files
-design_refused law (refusal.Fault fault) files first = record { violates = chip.design first.violates; least = least } where
-  least : (other : Fault) → chip.Violates files other → ¬ Before other fault
-  least _ (chip.design {f = other} is) = first.least other is
-  least _ (chip.numbers m is breaks) = absurd (law files m is.merged is.spaced fault first.violates)
-  least _ (chip.sources m is breaks) = absurd (law files m is.merged is.spaced fault first.violates)
-  least _ (chip.pins m is breaks) = absurd (law files m is.merged is.spaced fault first.violates)
-  least _ (chip.top_names c name is twice) = absurd (law files c.source.merged is.merged is.spaced fault first.violates)
-  least _ (chip.crossbar_names c x xbar ranges name is at twice) = absurd (law files c.source.merged is.merged is.spaced fault first.violates)
-  least _ (chip.block_names c k laid tree name is at twice) = absurd (law files c.source.merged is.merged is.spaced fault first.violates)
-design_refused law refusal.Memory files r = tt
-
-pub chip_refused : (e : DescFault) (files : List File) → chip.Computes (Err e) files → chip.Builds (Err e) files
-chip_refused (refusal.Fault fault) files first = first
-chip_refused refusal.Memory files r = tt

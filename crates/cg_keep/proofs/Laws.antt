@@ -2,7 +2,8 @@
 use Rattle.std.proofs.Common.{subst, sym}
 use Rattle.cg_chip.specs.Laws.{BuildIsOne, WhatIsWrittenMeans}
 use Rattle.cg_chip.specs.Violations.{IsBuild}
-use Rattle.cg_keep.specs.Laws.{BuiltBreaksNothing, BuiltIsOne, WhatIsBuiltMeans}
+use Rattle.cg_keep.specs.Laws.{BuiltBreaksNothing, BuiltIsOne, BuiltNamesDiffer, WhatIsBuiltMeans}
+use Rattle.cg_keep.proofs.Texts.{written_differ}
 use Rattle.cg_keep.proofs.Wanted.{broken_here, files_one}
 
 pub built_one : BuildIsOne → BuiltIsOne
@@ -11,6 +12,9 @@ built_one law top files xs ys built also =
 
 pub built_breaks_nothing : BuiltBreaksNothing
 built_breaks_nothing top files outputs f built broken = built.build.unbroken f (broken_here top files built.own built.are f broken)
+
+pub built_names_differ : BuiltNamesDiffer
+built_names_differ top files outputs built = written_differ built.build.chip outputs built.build.written
 
 pub built_means : WhatIsWrittenMeans → WhatIsBuiltMeans
 built_means law top files outputs built = record {

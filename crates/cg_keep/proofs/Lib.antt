@@ -1,3 +1,4 @@
 pub mod Wanted
 mod Building
 mod Laws
+pub mod Texts

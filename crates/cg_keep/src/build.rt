@@ -10,7 +10,7 @@ ghost use Rattle.cg_design.specs.Breaks.{DescribesTop};
 ghost use Rattle.cg_design.specs.Files.{given_file, numbered, size_of};
 ghost use Rattle.cg_design.specs.Violations.{IsSourceOf};
 ghost use Rattle.cg_chip.specs.Violations.{Builds as BuildsFiles};
-ghost use Rattle.cg_keep.specs.Kept.{Builds};
+ghost use Rattle.cg_keep.specs.Kept.{Builds, Describes};
 
 use crate::names::file_names;
 use cg_base::{FileMap, List, Memory, Text};
@@ -36,6 +36,53 @@ fn given_files<'a>(
     Ok(given)
 }
 
+/// How many bytes there are.
+fn size_of(given: Option<&[u8]>) -> u64
+    ensures { result ≡ size_of (option_map (λ b. b.now) given.entry) }
+{
+    match given {
+        Some(bytes) => bytes.len() as u64,
+        None => 0,
+    }
+}
+
+/// What the files of a top describe together, whose own file describes it so, or the first of all that they break.
+fn source_of_top(
+    alloc: Global,
+    files: &FileMap,
+    own: Option<&[u8]>,
+    source: TopSource,
+) -> Result<DesignSource, DescFault>
+    requires valid { IsValidTop source.top }
+    requires described { DescribesTop (given_file 0 0 (option_map (λ b. b.now) own)) source.tree source.top }
+    ensures describes { (top : List ℕ) → fin.get files.now top ≡ option_map (λ b. b.now) own.entry → Describes result top files.now }
+    ensures merged { IfOk result (λ s. IsMerged s.merged) }
+    ensures spaced { IfOk result (λ s. NoViolation s.merged) }
+{
+    files_are_of_one_top();
+    let types = types_of(alloc, &source.top)?;
+    let names = file_names(alloc, &source.top, &types)?;
+    let others = given_files(alloc, files, names.as_slice())?;
+    design(alloc, source, size_of(own), &types, others.as_slice())
+}
+
+/// What the files of the top whose own file has this name describe together, or the first of all that they break.
+pub(crate) fn source_of(
+    alloc: Global,
+    files: &FileMap,
+    top: &str,
+) -> Result<DesignSource, DescFault>
+    ensures describes { Describes result top.now files.now }
+    ensures merged { IfOk result (λ s. IsMerged s.merged) }
+    ensures spaced { IfOk result (λ s. NoViolation s.merged) }
+{
+    let own = files.get(top);
+    match read_top(alloc, own) {
+        Ok(source) => source_of_top(alloc, files, own, source),
+        Err(refused) => Err(refused),
+    }
+}
+
 /// All that is written of what the files describe together, or the first of all that they break behind that.
 fn build_source(alloc: Global, source: DesignSource) -> Result<List<OutFile>, DescFault>
     requires merged { IsMerged source.merged }
@@ -49,44 +96,12 @@ fn build_source(alloc: Global, source: DesignSource) -> Result<List<OutFile>, De
     }
 }
 
-/// How many bytes there are.
-fn size_of(given: Option<&[u8]>) -> u64
-    ensures { result ≡ size_of (option_map (λ b. b.now) given.entry) }
-{
-    match given {
-        Some(bytes) => bytes.len() as u64,
-        None => 0,
-    }
-}
-
-/// All that is written of the files of a top whose own file describes it so, or the first of all that they break.
-fn build_top(
-    alloc: Global,
-    files: &FileMap,
-    own: Option<&[u8]>,
-    source: TopSource,
-) -> Result<List<OutFile>, DescFault>
-    requires valid { IsValidTop source.top }
-    requires described { DescribesTop (given_file 0 0 (option_map (λ b. b.now) own)) source.tree source.top }
-    ensures { (top : List ℕ) → fin.get files.now top ≡ option_map (λ b. b.now) own.entry → Builds result top files.now }
-{
-    files_are_of_one_top();
-    let types = types_of(alloc, &source.top)?;
-    let names = file_names(alloc, &source.top, &types)?;
-    let others = given_files(alloc, files, names.as_slice())?;
-    match design(alloc, source, size_of(own), &types, others.as_slice()) {
-        Ok(source) => build_source(alloc, source),
-        Err(refused) => Err(refused),
-    }
-}
-
 /// All that is written of the files of the top whose own file has this name, or the first of all that they break.
 pub(crate) fn build(alloc: Global, files: &FileMap, top: &str) -> Result<List<OutFile>, DescFault>
     ensures { Builds result top.now files.now }
 {
-    let own = files.get(top);
-    match read_top(alloc, own) {
-        Ok(source) => build_top(alloc, files, own, source),
+    match source_of(alloc, files, top) {
+        Ok(source) => build_source(alloc, source),
         Err(refused) => Err(refused),
     }
 }

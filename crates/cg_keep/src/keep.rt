@@ -3,10 +3,11 @@
 ghost use Rattle.std.specs.Prelude.{◌≡◌, ◌<◌, ◌≤◌, None, IfOk, OnOk, OnErr, option_copied};
 ghost use Rattle.cg_keep.specs.declared.keep.KeepFault.TheVariants.{Memory as OutOfMemory};
 
-use crate::build::build;
+use crate::build::{build, source_of};
 use crate::names::wanted_names;
 use cg_base::{FileMap, Gate, List, Memory, Steps, Text};
 use cg_desc::{DescFault, Fault};
+use cg_design::DesignSource;
 use cg_outputs::OutFile;
 use std::alloc::Global;
 use std::marker::Model;
@@ -58,7 +59,9 @@ impl Model for Keep {
 impl Keep {
     ghost use Rattle.std.specs.FinMap as map;
     ghost use Rattle.cg_keep.specs.Files.{AreWanted};
-    ghost use Rattle.cg_keep.specs.Kept.{Refreshes};
+    ghost use Rattle.cg_desc.specs.Merged.{IsMerged};
+    ghost use Rattle.cg_space.specs.Violations.{NoViolation};
+    ghost use Rattle.cg_keep.specs.Kept.{Describes, Refreshes};
 
     /// No files yet; the top's own is the one of this name.
     pub fn new(alloc: Global, top: Text) -> Result<Keep, Memory>
@@ -104,6 +107,16 @@ impl Keep {
             self.files.get(self.top.as_str()),
             self.top.as_str(),
         )
+    }
+
+    /// What the files describe together: the top, merged with its crossbars and blocks, and the trees of the descriptions; or the first of all that they break,
+    /// exactly, where it is one of the rules up to those on ranges.
+    pub fn source(&self) -> Result<DesignSource, DescFault>
+        ensures describes { Describes result self.now.top self.now.files }
+        ensures merged { IfOk result (λ s. IsMerged s.merged) }
+        ensures spaced { IfOk result (λ s. NoViolation s.merged) }
+    {
+        source_of(self.alloc, &self.files, self.top.as_str())
     }
 
     /// Builds the files as they are, and keeps what is built: all that is written of them, or the first of all that they break, exactly.

@@ -1,7 +1,7 @@
 //! A top's files by their names, and what is built of them.
 //!
 //! A `Keep` holds files in memory, of which one is a top's. `wanted` names the files of the top's build, in their order: the top's own,
-//! and those of the crossbars and the blocks that it names. `rebuild` builds the files as they are: it keeps all that is written of
+//! and those of the crossbars and the blocks that it names. `source` gives what they describe together. `rebuild` builds the files as they are: it keeps all that is written of
 //! them, which `last_built` gives, or answers the first of all that they break, exactly, and a build that is refused leaves the last one
 //! that was not. Whatever was put, taken away and built before, the answer is that of a build from nothing.
 //!
@@ -9,7 +9,7 @@
 //! is known here of the command line or of stores. Not promised: that memory is found, or time.
 #![tactic(auto)]
 
-ghost use Rattle.cg_keep.specs.Laws.{BuiltBreaksNothing, BuiltIsOne, WantedAreOne, WhatIsBuiltMeans};
+ghost use Rattle.cg_keep.specs.Laws.{BuiltBreaksNothing, BuiltIsOne, BuiltNamesDiffer, WantedAreOne, WhatIsBuiltMeans};
 
 mod build;
 mod keep;
@@ -18,11 +18,12 @@ mod names;
 use cg_chip::{files_are_of_one_build, what_is_written_means};
 pub use keep::{Built, Keep, KeepFault};
 
-/// One list of names is wanted, and one list of outputs is built, where nothing is broken.
+/// One list of names is wanted, and one list of outputs is built, with names that differ, where nothing is broken.
 pub fn a_build_is_one()
     ensures wanted { WantedAreOne }
     ensures built { BuiltIsOne }
     ensures unbroken { BuiltBreaksNothing }
+    ensures names { BuiltNamesDiffer }
 {
     files_are_of_one_build();
 }

@@ -1,7 +1,10 @@
-use Rattle.std.proofs.Common.{sym}
-use Rattle.cg_keep.proofs.Building.{top_refused}
+use Rattle.cg_keep.proofs.Building.{built_of, refuses_so}
 use Rattle.cg_keep.proofs.build.build.Goals as goal
 
--- the top's own file breaks a rule by itself
+-- the files break a rule up to the ranges
 pub returns-in-Err : goal.returns-in-Err
-returns-in-Err c = top_refused c.args.top.now c.args.files.now _ c.in-Err.refused (sym c.get-own.ensures) c.in-Err.ensures.finds
+returns-in-Err c = refuses_so c.args.top.now c.args.files.now c.in-Err.refused c.in-Err.ensures.describes
+
+-- they describe something, and it is built
+pub returns-in-Ok : goal.returns-in-Ok
+returns-in-Ok c = built_of c.args.top.now c.args.files.now c.in-Ok.source c.build_source.result c.in-Ok.ensures.describes c.build_source.ensures
