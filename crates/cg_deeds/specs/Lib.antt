@@ -1,0 +1,4 @@
+pub mod Outside
+pub mod Deeds
+pub mod Told
+pub mod Inner
