@@ -1,0 +1,4 @@
+pub mod Lines
+pub mod Input
+pub mod Reading
+pub mod Laws
