@@ -1,0 +1,16 @@
+pub mod Takes
+pub mod Gots
+pub mod LineReading
+pub mod Splits
+pub mod LineBytes
+pub mod Prefixes
+pub mod Changing
+pub mod Turning
+pub mod Stepping
+pub mod Playing
+pub mod SessionEnding
+pub mod Deciding
+pub mod Runs
+pub mod Ones
+pub mod Holding
+pub mod HoldingBuilds

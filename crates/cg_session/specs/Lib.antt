@@ -1,0 +1,10 @@
+pub mod Answers
+pub mod Play
+pub mod Holding
+pub mod Session
+pub mod Laws
+pub mod Ends
+pub mod Lines
+pub mod Taking
+pub mod Turns
+pub mod Steps
