@@ -1,19 +1,20 @@
 -- How a run ends where its parts end so.
 use Rattle.std.proofs.Common.{◌≡◌, ◌<◌, ℕ, ◌+◌, List, refl, sym, ap, ◌∙◌, subst, inl, inr, arith}
-use Rattle.cg_gen.specs.declared.deed.Stream.TheVariants.{Out, Err}
-use Rattle.cg_gen.specs.declared.deed.Deed.{Deed}
-use Rattle.cg_gen.specs.declared.deed.Deed.TheVariants.{Write, Remove, Say}
-use Rattle.cg_gen.specs.declared.deed.Due.{Due}
-use Rattle.cg_gen.specs.declared.deed.Status.{Status}
-use Rattle.cg_gen.specs.declared.deed.Status.TheVariants.{Built, Refused, NoCommand}
+use Rattle.cg_deeds.specs.declared.deed.Stream.TheVariants.{Out, Err}
+use Rattle.cg_deeds.specs.declared.deed.Deed.{Deed}
+use Rattle.cg_deeds.specs.declared.deed.Deed.TheVariants.{Write, Remove, Say}
+use Rattle.cg_gen.specs.declared.due.Due.{Due}
+use Rattle.cg_gen.specs.declared.due.Status.{Status}
+use Rattle.cg_gen.specs.declared.due.Status.TheVariants.{Built, Refused, NoCommand}
 use Rattle.cg_gen.specs.declared.ending.Ending.{Ending}
 use Rattle.cg_gen.specs.declared.ending.Ending.TheVariants.{Done, ReadFailed, WriteFailed, Memory}
-use Rattle.cg_gen.specs.Outside.{World, Calm}
-use Rattle.cg_gen.specs.Deeds.{FaultRose}
+use Rattle.cg_deeds.specs.Outside.{World, Calm}
+use Rattle.cg_deeds.specs.Deeds.{FaultRose}
 use Rattle.cg_gen.specs.Reads.{Read, GaveAll}
-use Rattle.cg_gen.specs.Run.{FindsIn, Performs, ReadFails, WriteFails, MemoryUnfound, Ends, Completes, Runs, number_of, code_of}
+use Rattle.cg_gen.specs.Run.{FindsIn, Performs, ReadFails, WriteFails, MemoryUnfound, Ends, Completes, RunsOnFiles, number_of, code_of}
 use Rattle.cg_gen.specs.Inner.{PerformEnds}
 use Rattle.cg_gen.specs.Meaning.{WritesMeaning}
+use Rattle.cg_keep.specs.Laws.{BuiltBreaksNothing}
 use Rattle.cg_gen.proofs.Once.{status_once}
 
 -- what was due was done, or one of its deeds was not
@@ -33,13 +34,13 @@ calm_deed (Remove name) before after calm rose = calm.changes rose
 calm_deed (Say Out line) before after calm rose = calm.out rose
 calm_deed (Say Err line) before after calm rose = calm.err rose
 
-pub completed : (e : Ending) (words : List (List ℕ)) (before after : World) → Ends e words before after → Completes (code_of e) words before after
-completed (Done status) words before after p calm m told reads due gave is =
+pub completed : BuiltBreaksNothing → (e : Ending) (words : List (List ℕ)) (before after : World) → Ends e words before after → Completes (code_of e) words before after
+completed law (Done status) words before after p calm m told reads due gave is =
     let gave' = subst (λ files. GaveAll files p.reads) told p.finds.gave in
-    inl (ap number_of (sym p.is_status ∙ status_once words m p.reads reads p.due due gave' gave p.finds.is_due is))
-completed ReadFailed words before after p calm m told reads due gave is = absurd (calm.reads p.fails.rose)
-completed WriteFailed words before after p calm m told reads due gave is = absurd (calm_deed p.deed before after calm p.rose)
-completed Memory words before after p calm m told reads due gave is = inr refl
+    inl (ap number_of (sym p.is_status ∙ status_once law words m p.reads reads p.due due gave' gave p.finds.is_due is))
+completed law ReadFailed words before after p calm m told reads due gave is = absurd (calm.reads p.fails.rose)
+completed law WriteFailed words before after p calm m told reads due gave is = absurd (calm_deed p.deed before after calm p.rose)
+completed law Memory words before after p calm m told reads due gave is = inr refl
 
 -- ---- by the number of the status
 
@@ -96,9 +97,9 @@ small WriteFailed = omega arith
 small Memory = omega arith
 
 -- all that is said of a run
-pub ended : (e : Ending) (status : ℕ) (words : List (List ℕ)) (before after : World) → Ends e words before after → after.left ≡ before.left → status ≡ code_of e
-    → (Performs Built words before after → WritesMeaning words before after) → Runs status words before after
-ended e status words before after ends left is means = record {
+pub ended : BuiltBreaksNothing → (e : Ending) (status : ℕ) (words : List (List ℕ)) (before after : World) → Ends e words before after → after.left ≡ before.left → status ≡ code_of e
+    → (Performs Built words before after → WritesMeaning words before after) → RunsOnFiles status words before after
+ended law e status words before after ends left is means = record {
   range = subst (λ n. n < 6) (sym is) (small e);
   done = λ s. performs e Built words before after ends (sym is ∙ s);
   refused = λ s. performs e Refused words before after ends (sym is ∙ s);
@@ -106,7 +107,7 @@ ended e status words before after ends left is means = record {
   read_failed = λ s. read_fails e words before after ends (sym is ∙ s);
   write_failed = λ s. write_fails e words before after ends (sym is ∙ s);
   memory = λ s. memory_unfound e words before after ends (sym is ∙ s);
-  complete = subst (λ n. Completes n words before after) (sym is) (completed e words before after ends);
+  complete = subst (λ n. Completes n words before after) (sym is) (completed law e words before after ends);
   meaning = λ s. means (performs e Built words before after ends (sym is ∙ s));
   input_left = left;
 }

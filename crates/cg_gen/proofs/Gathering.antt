@@ -1,5 +1,5 @@
 -- The files of a folder are read one after the other.
-use Rattle.std.proofs.Common.{◌≡◌, ℕ, zero, suc, ◌+◌, ◌<◌, ◌≤◌, List, [], ◌∷◌, ◌++◌, append-nil, append_assoc, length, length-append, drop, map, cond, replicate, slice_get, Option, Some, None, Result, Ok, Err, refl, sym, ap, subst, ◌∙◌, arith}
+use Rattle.std.proofs.Common.{◌≡◌, ℕ, ◌+◌, ◌≤◌, List, [], ◌∷◌, ◌++◌, append-nil, append_assoc, length, length-append, slice_get, Option, Some, None, Result, Ok, Err, refl, sym, ap, subst, ◌∙◌, arith}
 use Rattle.std.specs.FinMap as fin
 use Rattle.std.specs.Result.{IsErrAnd}
 use Rattle.cg_base.specs.Outside.{Files, Rose, also_asked}
@@ -7,8 +7,8 @@ use Rattle.cg_keep.specs.Kept.{Kept}
 use Rattle.cg_gen.specs.Reads.{Read, read, Gave, GaveAll, names_of}
 use Rattle.cg_gen.specs.Topgen.{in_folder, with_given, with_read, with_reads}
 use Rattle.cg_gen.specs.declared.given.Given.{Given}
-use Rattle.cg_gen.specs.declared.stop.Stop.{Stop}
-use Rattle.cg_gen.specs.declared.stop.Stop.TheVariants as stop
+use Rattle.cg_deeds.specs.declared.stop.Stop.{Stop}
+use Rattle.cg_deeds.specs.declared.stop.Stop.TheVariants as stop
 use Rattle.cg_gen.specs.Gathering.{AreOfNames, GatherEnds, Gathered, GatheredAll, GatheredTo, NextFails, Shown}
 use Rattle.std.proofs.Math.Seq.{drop-append_seam}
 

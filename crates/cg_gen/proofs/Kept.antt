@@ -8,12 +8,12 @@ use Rattle.cg_base.specs.Outside.{Files, written_OnlyAt}
 use Rattle.cg_svspec.specs.Names.{Among}
 use Rattle.cg_outputs.specs.declared.out_file.OutFile.{OutFile}
 use Rattle.cg_outputs.specs.Outputs.{NamesDiffer, Rises}
-use Rattle.cg_gen.specs.declared.deed.Stream.TheVariants.{Out}
-use Rattle.cg_gen.specs.declared.deed.Deed.TheVariants.{Say}
-use Rattle.cg_gen.specs.Deeds.{after_deeds}
-use Rattle.cg_gen.specs.OneFile.{stored_name}
+use Rattle.cg_deeds.specs.declared.deed.Stream.TheVariants.{Out}
+use Rattle.cg_deeds.specs.declared.deed.Deed.TheVariants.{Say}
+use Rattle.cg_deeds.specs.Deeds.{after_deeds}
+use Rattle.cg_deeds.specs.Told.{stored_name}
 use Rattle.cg_gen.specs.Due.{write_of}
-use Rattle.cg_gen.proofs.Texts.{rises_differ}
+use Rattle.cg_keep.proofs.Texts.{rises_differ}
 
 -- the files after these outputs were written into a folder
 abbrev pub after : List ℕ → Files → List OutFile → Files

@@ -1,5 +1,4 @@
 pub mod Lists
-pub mod Stopping
 pub mod Zeros
 pub mod Reading
 pub mod Units
@@ -9,7 +8,6 @@ pub mod Folders
 pub mod Gathering
 pub mod TopReads
 pub mod TopFiles
-pub mod Texts
 pub mod TopDue
 pub mod TopPlan
 pub mod SameReads
@@ -17,3 +15,5 @@ pub mod Once
 pub mod Endings
 pub mod Kept
 pub mod Meanings
+mod Sampling
+mod ByWords

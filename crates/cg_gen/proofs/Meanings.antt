@@ -2,8 +2,6 @@
 use Rattle.std.proofs.Common.{◌≡◌, ℕ, List, [], ◌∷◌, length, Option, Some, refl, ap, ◌∙◌, subst}
 use Rattle.std.specs.FinMap as fin
 use Rattle.cg_base.specs.Outside.{Files}
-use Rattle.cg_desc.specs.declared.block.LaidBlock.{LaidBlock}
-use Rattle.cg_hjson.specs.declared.tree.Tree.{Tree}
 use Rattle.cg_words.specs.declared.command.Command.{Command}
 use Rattle.cg_words.specs.declared.command.Command.TheVariants.{Regtool, Tlgen, Topgen, Session, Probe, Sample}
 use Rattle.cg_words.specs.declared.command.RegOut.{RegOut}
@@ -12,17 +10,16 @@ use Rattle.cg_files.specs.Files.{File, some_file}
 use Rattle.cg_outputs.specs.declared.out_file.OutFile.{OutFile}
 use Rattle.cg_outputs.specs.Outputs.{AreOutputs}
 use Rattle.cg_block.specs.Outputs.{register_output, header_output, completed_output}
-use Rattle.cg_block.specs.Breaks.{IsGoodFile}
 use Rattle.cg_block.specs.Laws.{BlockOutputsMean}
 use Rattle.cg_desc.specs.declared.crossbar.XbarDesc.{XbarDesc}
 use Rattle.cg_crossbar.specs.Breaks.{IsGoodFile as GoodCrossbar}
 use Rattle.cg_crossbar.specs.Laws.{CrossbarFileMeans}
 use Rattle.cg_crossbar.proofs.Once.{good_one}
 use Rattle.cg_keep.specs.Laws.{WhatIsBuiltMeans}
-use Rattle.cg_gen.specs.declared.deed.Due.{Due}
-use Rattle.cg_gen.specs.declared.deed.Status.TheVariants.{Built, Refused, NoCommand}
-use Rattle.cg_gen.specs.Outside.{World}
-use Rattle.cg_gen.specs.Deeds.{Contents, contents, after_deeds}
+use Rattle.cg_gen.specs.declared.due.Due.{Due}
+use Rattle.cg_gen.specs.declared.due.Status.TheVariants.{Built, Refused, NoCommand}
+use Rattle.cg_deeds.specs.Outside.{World}
+use Rattle.cg_deeds.specs.Deeds.{Contents, contents, after_deeds}
 use Rattle.cg_gen.specs.Reads.{Read, read, GaveAll}
 use Rattle.cg_gen.specs.OneFile as one
 use Rattle.cg_gen.specs.Regtool as regtool
@@ -30,7 +27,9 @@ use Rattle.cg_gen.specs.Regtool.{Block}
 use Rattle.cg_gen.specs.Tlgen as tlgen
 use Rattle.cg_gen.specs.Commands.{IsBuiltCommand, folder_of, Writes}
 use Rattle.cg_gen.specs.Commands as commands
-use Rattle.cg_gen.specs.Due.{HasReadAll, IsDue, no_command, refuses, builds, built_line}
+use Rattle.cg_deeds.specs.Told.{built_line}
+use Rattle.cg_gen.specs.Due.{HasReadAll, IsDue, no_command, refuses, builds, samples}
+use Rattle.cg_gen.specs.Sample as sample
 use Rattle.cg_gen.specs.Inner.{only_file}
 use Rattle.cg_gen.specs.Run.{Performs}
 use Rattle.cg_gen.specs.Meaning.{WritesMeaning, WritesOf}
@@ -134,7 +133,7 @@ writes laws (Tlgen file dir) m reads os built gave has good are =
 writes laws (Topgen file dir workers) m reads os built gave has good are = by_topgen laws.tops file dir workers m reads os gave has are
 writes laws (Session file dir workers) m reads os built gave has good are = absurd built
 writes laws (Probe dir host address) m reads os built gave has good are = absurd built
-writes laws (Sample number) m reads os built gave has good are = absurd built
+writes laws (Sample number) m reads os built gave has good are = absurd good
 
 abbrev Means : List (List ℕ) → Files → Option Files → Type 0
 Means words m files = (n : Files) × (files ≡ Some n) × WritesOf words m n
@@ -148,6 +147,8 @@ by_due laws words m _ _ files out err (builds reads c os is built has sound good
   done ∙ written_are (folder_of c) (built_line (length os) 0) m os out err,
   record { command = c; is_command = is; writes = writes laws c m reads os built gave has good are },
 )
+by_due laws words m _ _ files out err (samples number _ is (sample.counts counts are)) gave status done = (m, done, record { command = Sample number; is_command = is; writes = refl })
+by_due laws words m _ _ files out err (samples number _ is (sample.refuses fault names first wanted)) gave status done = absurd (let bad : Refused ≡ Built = status in cc)
 
 -- a run that built what was due
 pub built_means : Laws → (words : List (List ℕ)) (before after : World) → Performs Built words before after → WritesMeaning words before after

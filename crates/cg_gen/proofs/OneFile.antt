@@ -1,5 +1,5 @@
 -- What is due for a command that reads one description.
-use Rattle.std.proofs.Common.{◌≡◌, ◌<◌, ℕ, List, [], ◌∷◌, length, Option, Some, None, refl, sym, ap, ◌∙◌, subst, inl, inr}
+use Rattle.std.proofs.Common.{◌≡◌, ◌<◌, ℕ, List, [], ◌∷◌, length, Option, Some, None, refl, ap, ◌∙◌, subst, inl, inr}
 use Rattle.cg_svspec.specs.Names.{Among}
 use Rattle.cg_desc.specs.FaultText.{fault_line}
 use Rattle.cg_desc.specs.Faults.{Before}
@@ -14,9 +14,10 @@ use Rattle.cg_files.specs.Files.{File, BreaksFile, limit}
 use Rattle.cg_files.proofs.FirstOnes.{first_absent, first_large, named}
 use Rattle.cg_outputs.specs.declared.out_file.OutFile.{OutFile}
 use Rattle.cg_outputs.specs.Outputs.{AreOutputs}
-use Rattle.cg_gen.specs.declared.deed.Status.TheVariants.{Refused}
-use Rattle.cg_gen.specs.declared.deed.Due.{Due}
-use Rattle.cg_gen.specs.Due.{line, due_of_line, due_of_outputs}
+use Rattle.cg_gen.specs.declared.due.Status.TheVariants.{Refused}
+use Rattle.cg_gen.specs.declared.due.Due.{Due}
+use Rattle.cg_deeds.specs.Told.{line}
+use Rattle.cg_gen.specs.Due.{due_of_line, due_of_outputs}
 use Rattle.cg_gen.specs.Inner.{only_file, IsDueFor, refuses as refused, builds as built}
 use Rattle.cg_gen.specs.OneFile.{Violates, IsGood, IsOutput}
 use Rattle.cg_gen.specs.Reads.{Read, read, files_of}

@@ -1,23 +1,24 @@
 -- What is due for the words, from what the pieces say.
-use Rattle.std.proofs.Common.{◌≡◌, ◌⊎◌, ℕ, List, [], ◌∷◌, ◌++◌, append-nil, Option, Some, None, Result, Ok, Err, IfOk, IfErr, refl, sym, ap, ◌∙◌, subst, inl, inr}
+use Rattle.std.proofs.Common.{◌≡◌, ◌⊎◌, ◌≤◌, ℕ, List, [], ◌∷◌, ◌++◌, append-nil, Option, Some, None, Result, Ok, Err, IfOk, IfErr, refl, sym, ap, ◌∙◌, subst, inl, inr}
 use Rattle.std.specs.FinMap as fin
 use Rattle.cg_base.specs.Outside.{Files, Rose, also_asked}
 use Rattle.cg_words.specs.Words.{IsCommand}
 use Rattle.cg_words.specs.declared.command.Command.{Command}
-use Rattle.cg_words.specs.declared.command.Command.TheVariants.{Regtool, Tlgen}
+use Rattle.cg_words.specs.declared.command.Command.TheVariants.{Regtool, Tlgen, Sample}
 use Rattle.cg_words.specs.declared.command.RegOut.{RegOut}
 use Rattle.cg_words.proofs.ExactWords.{one_command}
-use Rattle.cg_gen.specs.declared.deed.Due.{Due}
+use Rattle.cg_gen.specs.declared.due.Due.{Due}
 use Rattle.cg_gen.specs.OneFile as one
 use Rattle.cg_gen.specs.Reads.{Read, read, Gave, GaveAll}
 use Rattle.cg_gen.specs.Commands.{IsBuiltCommand, NextRead}
-use Rattle.cg_gen.specs.Due.{HasRead, none, one_more, HasReadAll, IsDue, no_command, refuses, builds, due_of_no_command}
+use Rattle.cg_gen.specs.Due.{HasRead, none, one_more, HasReadAll, IsDue, no_command, refuses, builds, samples, due_of_no_command}
 use Rattle.cg_gen.specs.Inner as inner
 use Rattle.cg_gen.specs.declared.given.Given.{Given}
-use Rattle.cg_gen.specs.declared.stop.Stop.{Stop}
-use Rattle.cg_gen.specs.declared.stop.Stop.TheVariants as stop
+use Rattle.cg_deeds.specs.declared.stop.Stop.{Stop}
+use Rattle.cg_deeds.specs.declared.stop.Stop.TheVariants as stop
 use Rattle.cg_gen.specs.Inner.{IsDueFrom, PlanEnds}
 use Rattle.cg_gen.specs.Run.{Finds, NextReadFails}
+use Rattle.cg_gen.specs.Sample.{IsSampleDue}
 
 -- ---- behind all reads of a command
 
@@ -121,6 +122,22 @@ pub usage_ends : (words : List (List ℕ)) (files : Option Files) (asked : Optio
 usage_ends words files asked faults (Ok d) other due memory = usage_planned words files asked asked d other refl due
 usage_ends words files asked faults (Err stop.Memory) other due memory = tt
 usage_ends words files asked faults (Err stop.Failed) other due memory = absurd (let bad : stop.Failed ≡ stop.Memory = memory in cc)
+
+-- what is due for a sample, as far as memory was found
+pub sample_ends : (words : List (List ℕ)) (number : ℕ) (files : Option Files) (asked : Option (List (List ℕ))) (faults : ℕ) (r : Result Due Stop) → IsCommand words (Sample number)
+    → IfOk r (λ d. IsSampleDue number d) → IfErr r (λ e. e ≡ stop.Memory) → PlanEnds r words files asked asked faults faults
+sample_ends words number files asked faults (Ok d) is due memory = ([], record { gave = tt; asked_for = none_asked asked; is_due = samples number d is due })
+sample_ends words number files asked faults (Err stop.Memory) is due memory = tt
+sample_ends words number files asked faults (Err stop.Failed) is due memory = absurd (let bad : stop.Failed ≡ stop.Memory = memory in cc)
+
+-- the number of a sample is from 1 to 200
+pub some_instance : (words : List (List ℕ)) (number : ℕ) → IsCommand words (Sample number) → 1 ≤ number
+some_instance [] number is = absurd is
+some_instance (tool ∷ words) number is = is.1.size.from_low
+
+pub few_instances : (words : List (List ℕ)) (number : ℕ) → IsCommand words (Sample number) → number ≤ 200
+few_instances [] number is = absurd is
+few_instances (tool ∷ words) number is = is.1.size.to_high
 
 -- if-ok in other words
 pub if_ok : {X E : Type 0} (P Q : X → Type 0) (r : Result X E) → ((x : X) → P x → Q x) → IfOk r P → IfOk r Q

@@ -1,5 +1,5 @@
 -- What is due for the files of a top, and what its outputs mean.
-use Rattle.std.proofs.Common.{◌≡◌, ℕ, zero, suc, List, [], ◌∷◌, ◌++◌, length, map, slice_get, Option, Some, None, Ok, Err, refl, sym, ap, subst, ◌∙◌, arith}
+use Rattle.std.proofs.Common.{◌≡◌, ℕ, zero, suc, List, [], ◌∷◌, ◌++◌, length, map, slice_get, Option, Some, None, refl, sym, ap, subst, ◌∙◌, arith}
 use Rattle.std.specs.FinMap as fin
 use Rattle.cg_base.specs.Outside.{Files}
 use Rattle.cg_desc.specs.declared.fault.Fault.{Fault}
@@ -12,7 +12,7 @@ use Rattle.cg_keep.specs.Files.{AreWanted, IsBuilt, top_alone}
 use Rattle.cg_keep.specs.Files as keep
 use Rattle.cg_keep.specs.Laws.{BuiltBreaksNothing, WhatIsBuiltMeans}
 use Rattle.cg_words.specs.declared.command.Command.TheVariants.{Topgen}
-use Rattle.cg_gen.specs.declared.deed.Due.{Due}
+use Rattle.cg_gen.specs.declared.due.Due.{Due}
 use Rattle.cg_gen.specs.Reads.{Read, GaveAll, name_of_file, names_of}
 use Rattle.cg_gen.specs.Topgen.{AreWritten, StandsIn, Violates, WritesTop, files_read}
 use Rattle.cg_gen.specs.Due.{HasReadAll, due_of_fault, due_of_outputs}
@@ -20,7 +20,7 @@ use Rattle.cg_gen.specs.Inner.{IsDueFrom, refuses, builds}
 use Rattle.cg_gen.specs.Gathering.{AreOfNames}
 use Rattle.cg_gen.proofs.Folders.{stands_one}
 use Rattle.cg_gen.proofs.Kept.{after, kept_apart, untouched}
-use Rattle.cg_gen.proofs.Texts.{written_differ}
+use Rattle.cg_keep.proofs.Texts.{written_differ}
 use Rattle.cg_gen.proofs.TopFiles.{kept_as_there, kept_stays}
 use Rattle.cg_gen.proofs.TopReads.{WantedBy, all_read, are_so, some_read}
 

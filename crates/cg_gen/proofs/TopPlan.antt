@@ -1,5 +1,5 @@
 -- How the planning of `topgen` ends, from how the reading of its files ends.
-use Rattle.std.proofs.Common.{◌≡◌, ℕ, suc, ◌-◌, ◌<◌, ◌≤◌, List, [], ◌∷◌, ◌++◌, length, take, drop, map, slice_get, Option, Some, None, Ok, Err, refl, sym, ap, subst, ◌∙◌, arith}
+use Rattle.std.proofs.Common.{◌≡◌, ℕ, suc, ◌-◌, ◌<◌, ◌≤◌, List, [], ◌∷◌, ◌++◌, length, take, drop, map, slice_get, Option, Some, None, Ok, Err, sym, ap, subst, ◌∙◌, arith}
 use Rattle.std.specs.FinMap as fin
 use Rattle.std.proofs.lemmas.List.{take_all}
 use Rattle.cg_base.specs.Outside.{also_asked}
@@ -12,9 +12,9 @@ use Rattle.cg_keep.specs.Laws.{BuiltBreaksNothing}
 use Rattle.cg_keep.proofs.Wanted.{wanted_first}
 use Rattle.cg_words.specs.Words.{IsCommand}
 use Rattle.cg_words.specs.declared.command.Command.TheVariants.{Topgen}
-use Rattle.cg_gen.specs.declared.deed.Due.{Due}
-use Rattle.cg_gen.specs.declared.stop.Stop.{Stop}
-use Rattle.cg_gen.specs.declared.stop.Stop.TheVariants as stop
+use Rattle.cg_gen.specs.declared.due.Due.{Due}
+use Rattle.cg_deeds.specs.declared.stop.Stop.{Stop}
+use Rattle.cg_deeds.specs.declared.stop.Stop.TheVariants as stop
 use Rattle.cg_gen.specs.Reads.{GaveAll, Read, names_of}
 use Rattle.cg_gen.specs.Topgen.{NextRead, StandsIn, files_read, with_reads, own as own_file, next as next_file}
 use Rattle.cg_gen.specs.Due.{due_of_fault, due_of_outputs, none as no_read}

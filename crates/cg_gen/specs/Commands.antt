@@ -1,5 +1,5 @@
--- The commands that are built: what each reads, what breaks a rule in its files, what it writes, and what that means. One line each.
-use Rattle.std.specs.Prelude.{ℕ, List, []}
+-- The commands that are built and read files of the store: what each reads, what breaks a rule in its files, what it writes, and what that means. One line each.
+use Rattle.std.specs.Prelude.{◌≡◌, ℕ, List, []}
 use Rattle.cg_base.specs.Outside.{Files}
 use Rattle.cg_desc.specs.declared.fault.Fault.{Fault}
 use Rattle.cg_outputs.specs.Outputs.{AreOutputs}
@@ -11,11 +11,12 @@ use Rattle.cg_gen.specs.Regtool as regtool
 use Rattle.cg_gen.specs.Tlgen as tlgen
 use Rattle.cg_gen.specs.Topgen as topgen
 
--- the others are answered by the usage text
+-- a session reads its input (specs/Run); the others are answered by the usage text
 abbrev pub IsBuiltCommand : Command → Type 0
 IsBuiltCommand (Regtool made dir file) = Unit {0}
 IsBuiltCommand (Tlgen file dir) = Unit {0}
 IsBuiltCommand (Topgen file dir workers) = Unit {0}
+IsBuiltCommand (Sample number) = Unit {0}
 IsBuiltCommand _ = ⊥
 
 -- behind these reads the command reads the file of this name next
@@ -55,9 +56,10 @@ folder_of (Session file dir workers) = dir
 folder_of (Probe dir host address) = dir
 folder_of (Sample number) = []
 
--- what the files after a good run mean
+-- what the files after a good run mean; a sample is built in memory alone
 abbrev pub Writes : Command → Files → Files → Type 0
 Writes (Regtool made dir file) before after = regtool.WritesBlock made dir file before after
 Writes (Tlgen file dir) before after = tlgen.WritesCrossbar dir file before after
 Writes (Topgen file dir workers) before after = topgen.WritesTop dir file before after
+Writes (Sample number) before after = after ≡ before
 Writes _ before after = ⊥

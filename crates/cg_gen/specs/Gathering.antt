@@ -6,8 +6,8 @@ use Rattle.cg_keep.specs.Files.{AreWanted}
 use Rattle.cg_keep.specs.Kept.{Kept}
 use Rattle.cg_gen.specs.Reads.{Read, GaveAll, names_of}
 use Rattle.cg_gen.specs.Topgen.{with_reads}
-use Rattle.cg_gen.specs.declared.stop.Stop.{Stop}
-use Rattle.cg_gen.specs.declared.stop.Stop.TheVariants as stop
+use Rattle.cg_deeds.specs.declared.stop.Stop.{Stop}
+use Rattle.cg_deeds.specs.declared.stop.Stop.TheVariants as stop
 
 -- what a store shows of its reads: its files and the names that it was asked for, where they are told, and its count of failed reads
 pub record Shown : Type 0 where

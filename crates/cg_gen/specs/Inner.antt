@@ -1,44 +1,33 @@
 -- What the parts of a run say, from which the clauses of the whole are made.
-use Rattle.std.specs.Prelude.{◌≡◌, ◌⊎◌, ◌<◌, ℕ, List, [], ◌∷◌, length, Option, Some, None, Result, Ok, Err}
+use Rattle.std.specs.Prelude.{◌≡◌, ◌<◌, ℕ, List, length, Option, Some, None, Result, Ok, Err}
 use Rattle.cg_base.specs.Outside.{Files}
 use Rattle.cg_desc.specs.declared.fault.Fault.{Fault}
 use Rattle.cg_finding.specs.Violations.{IsFirstFault}
+use Rattle.cg_words.specs.Words.{IsCommand}
 use Rattle.cg_words.specs.declared.command.Command.{Command}
+use Rattle.cg_words.specs.declared.command.Command.TheVariants as command
+use Rattle.cg_words.specs.declared.fault.WordsFault.{WordsFault}
+use Rattle.cg_words.specs.declared.fault.WordsFault.TheVariants as unread
+use Rattle.cg_gen.specs.declared.said.Said.{Said}
+use Rattle.cg_gen.specs.declared.said.Said.TheVariants as said
 use Rattle.cg_outputs.specs.declared.out_file.OutFile.{OutFile}
 use Rattle.cg_files.specs.Files.{File, limit}
-use Rattle.cg_gen.specs.declared.deed.Deed.{Deed}
-use Rattle.cg_gen.specs.declared.deed.Due.{Due}
+use Rattle.cg_deeds.specs.declared.deed.Deed.{Deed}
+use Rattle.cg_gen.specs.declared.due.Due.{Due}
 use Rattle.cg_gen.specs.declared.ending.Ending.{Ending}
 use Rattle.cg_gen.specs.declared.ending.Ending.TheVariants.{Done, ReadFailed, WriteFailed, Memory}
 use Rattle.cg_gen.specs.declared.given.Given.{Given}
 use Rattle.cg_gen.specs.declared.given.Given.TheVariants as given
-use Rattle.cg_gen.specs.declared.stop.Stop.{Stop}
-use Rattle.cg_gen.specs.declared.stop.Stop.TheVariants as stop
-use Rattle.cg_gen.specs.Outside.{Outlets}
-use Rattle.cg_gen.specs.Deeds.{Contents, contents, after_deed, after_deeds, Begun, FaultRose, StoppedAt}
+use Rattle.cg_deeds.specs.declared.stop.Stop.{Stop}
+use Rattle.cg_deeds.specs.declared.stop.Stop.TheVariants as stop
+use Rattle.cg_deeds.specs.Outside.{Outlets}
+use Rattle.cg_deeds.specs.Deeds.{contents, after_deeds, FaultRose, StoppedAt}
 use Rattle.cg_gen.specs.Reads.{Read}
 use Rattle.cg_gen.specs.Commands.{Violates, IsGood, AreWritten, folder_of}
 use Rattle.cg_gen.specs.Due.{due_of_fault, due_of_outputs}
 use Rattle.cg_gen.specs.Run.{Finds, NextReadFails}
 
 -- ---- deeds
-
--- how a deed ends: it is done; it was begun and its object failed, or found no memory
-abbrev pub DeedEnds : Result (Unit {0}) Stop → Deed → Outlets → Outlets → Type 0
-DeedEnds (Ok u) deed before after = contents after ≡ after_deed deed (contents before)
-DeedEnds (Err stop.Failed) deed before after = Begun deed (contents before) (contents after) × FaultRose deed before after
-DeedEnds (Err stop.Memory) deed before after = Begun deed (contents before) (contents after)
-
--- it stopped at this one of the deeds
-abbrev pub Stopped : Deed → List Deed → Contents → Contents → Type 0
-Stopped deed [] before after = ⊥
-Stopped deed (d ∷ ds) before after = ((deed ≡ d) × Begun d before after) ⊎ Stopped deed ds (after_deed d before) after
-
--- how deeds end in their order
-abbrev pub DeedsEnd : Result (Unit {0}) Stop → List Deed → Outlets → Outlets → Type 0
-DeedsEnd (Ok u) deeds before after = contents after ≡ after_deeds deeds (contents before)
-DeedsEnd (Err stop.Failed) deeds before after = (deed : Deed) × Stopped deed deeds (contents before) (contents after) × FaultRose deed before after
-DeedsEnd (Err stop.Memory) deeds before after = (deed : Deed) × Stopped deed deeds (contents before) (contents after)
 
 -- how the performing of what is due ends
 abbrev pub PerformEnds : Ending → Due → Outlets → Outlets → Type 0
@@ -79,3 +68,17 @@ abbrev pub PlanEnds : Result Due Stop → List (List ℕ) → Option Files → (
 PlanEnds (Ok due) words files asked asked' faults faults' = (reads : List Read) × Finds words files asked asked' reads due
 PlanEnds (Err stop.Failed) words files asked asked' faults faults' = NextReadFails words files asked asked' faults faults'
 PlanEnds (Err stop.Memory) words files asked asked' faults faults' = Unit {0}
+
+-- ---- words
+
+-- the words are this command, or none
+abbrev pub AreWords : List (List ℕ) → Option Command → Type 0
+AreWords words (Some c) = IsCommand words c
+AreWords words None = (c : Command) → ¬ IsCommand words c
+
+-- a session's words; or another command's, or none; or that memory was not found for reading them
+abbrev pub IsSaid : Result Command WordsFault → Said → Type 0
+IsSaid read (said.Session file dir workers) = read ≡ Ok (command.Session file dir workers)
+IsSaid read (said.OnFiles (Some c)) = (read ≡ Ok c) × ((file dir : List ℕ) (workers : ℕ) → ¬ (c ≡ command.Session file dir workers))
+IsSaid read (said.OnFiles None) = read ≡ Err unread.NotCommand
+IsSaid read said.Memory = read ≡ Err unread.Memory

@@ -1,10 +1,12 @@
-pub mod Outside
-pub mod Deeds
+pub use Rattle.cg_deeds.specs.Outside
+pub use Rattle.cg_deeds.specs.Deeds
+pub use Rattle.cg_deeds.specs.Told
 pub mod Reads
 pub mod OneFile
 pub mod Regtool
 pub mod Tlgen
 pub mod Topgen
+pub mod Sample
 pub mod Commands
 pub mod Due
 pub mod Meaning

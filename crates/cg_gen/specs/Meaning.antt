@@ -3,7 +3,7 @@ use Rattle.std.specs.Prelude.{◌≡◌, ℕ, List, Some}
 use Rattle.cg_base.specs.Outside.{Files}
 use Rattle.cg_words.specs.Words.{IsCommand}
 use Rattle.cg_words.specs.declared.command.Command.{Command}
-use Rattle.cg_gen.specs.Outside.{World}
+use Rattle.cg_deeds.specs.Outside.{World}
 use Rattle.cg_gen.specs.Commands.{Writes}
 
 -- the words are a command, whose outputs the store holds with their meaning

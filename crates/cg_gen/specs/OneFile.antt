@@ -1,8 +1,9 @@
 -- Commands that read one description: what they read, what breaks a rule there, and what they write of it.
-use Rattle.std.specs.Prelude.{◌≡◌, ℕ, List, [], ◌∷◌, ◌++◌, Some}
+use Rattle.std.specs.Prelude.{◌≡◌, ℕ, List, [], Some}
 use Rattle.std.specs.FinMap as fin
 use Rattle.cg_base.specs.Outside.{Files}
 use Rattle.cg_svspec.specs.Names.{Among}
+use Rattle.cg_deeds.specs.Told.{stored_name}
 use Rattle.cg_desc.specs.declared.fault.Fault.{Fault}
 use Rattle.cg_finding.specs.Finding.{Finding, in_file}
 use Rattle.cg_outputs.specs.declared.out_file.OutFile.{OutFile}
@@ -38,10 +39,6 @@ pub record IsOutput {X : Type 0} (Describes : File → X → Type 0) (IsAskedFor
   pub is_asked_for : IsAskedFor described o
 
 -- ---- what a good run means, where the files are told
-
--- an output's name in the store: the folder, `/` and its file name
-abbrev pub stored_name : List ℕ → List ℕ → List ℕ
-stored_name dir name = dir ++ (47 ∷ name)
 
 -- the store holds this output, whose bytes have this meaning
 pub record HoldsText (dir : List ℕ) (after : Files) (name : List ℕ) (Means : List ℕ → Type 0) : Type 0 where

@@ -3,14 +3,16 @@ use Rattle.std.specs.Prelude.{◌≡◌, ◌⊎◌, ℕ, ◌<◌, List, [], ◌�
 use Rattle.cg_base.specs.Outside.{Files, Rose, also_asked}
 use Rattle.cg_words.specs.Words.{IsCommand}
 use Rattle.cg_words.specs.declared.command.Command.{Command}
-use Rattle.cg_gen.specs.declared.deed.Deed.{Deed}
-use Rattle.cg_gen.specs.declared.deed.Due.{Due}
-use Rattle.cg_gen.specs.declared.deed.Status.{Status}
-use Rattle.cg_gen.specs.declared.deed.Status.TheVariants.{Built, Refused, NoCommand}
+use Rattle.cg_words.specs.declared.command.Command.TheVariants.{Session}
+use Rattle.cg_session.specs.Session.{SessionRuns}
+use Rattle.cg_deeds.specs.declared.deed.Deed.{Deed}
+use Rattle.cg_gen.specs.declared.due.Due.{Due}
+use Rattle.cg_gen.specs.declared.due.Status.{Status}
+use Rattle.cg_gen.specs.declared.due.Status.TheVariants.{Built, Refused, NoCommand}
 use Rattle.cg_gen.specs.declared.ending.Ending.{Ending}
 use Rattle.cg_gen.specs.declared.ending.Ending.TheVariants.{Done, ReadFailed, WriteFailed, Memory}
-use Rattle.cg_gen.specs.Outside.{World, Calm}
-use Rattle.cg_gen.specs.Deeds.{contents, after_deeds, FaultRose, StoppedAt}
+use Rattle.cg_deeds.specs.Outside.{World, Calm}
+use Rattle.cg_deeds.specs.Deeds.{contents, after_deeds, FaultRose, StoppedAt}
 use Rattle.cg_gen.specs.Reads.{Read, GaveAll, names_of}
 use Rattle.cg_gen.specs.Commands.{NextRead}
 use Rattle.cg_gen.specs.Due.{HasRead, IsDue}
@@ -101,8 +103,8 @@ Ends ReadFailed words before after = ReadFails words before after
 Ends WriteFailed words before after = WriteFails words before after
 Ends Memory words before after = MemoryUnfound words before after
 
--- What a run with this status did.
-pub record Runs (status : ℕ) (words : List (List ℕ)) (before after : World) : Type 0 where
+-- What a run with this status did whose words are no session's.
+pub record RunsOnFiles (status : ℕ) (words : List (List ℕ)) (before after : World) : Type 0 where
   pub range : status < 6
   -- the outputs are written, and their number is told
   pub done : status ≡ 0 → Performs Built words before after
@@ -117,5 +119,10 @@ pub record Runs (status : ℕ) (words : List (List ℕ)) (before after : World) 
   pub complete : Completes status words before after
   -- the bytes in the store mean what the files that were read describe
   pub meaning : status ≡ 0 → WritesMeaning words before after
-  -- no command that is built takes a byte of the input
+  -- no byte of the input is taken
   pub input_left : after.left ≡ before.left
+
+-- What a run with this status did: of a session, by its input; of every other command, and of words that are none, by the files that they name.
+pub record Runs (status : ℕ) (words : List (List ℕ)) (before after : World) : Type 0 where
+  pub session : (file dir : List ℕ) (workers : ℕ) → IsCommand words (Session file dir workers) → SessionRuns status file dir before after
+  pub on_files : ((file dir : List ℕ) (workers : ℕ) → ¬ IsCommand words (Session file dir workers)) → RunsOnFiles status words before after

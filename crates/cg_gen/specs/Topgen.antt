@@ -1,5 +1,5 @@
 -- `topgen`: a whole top, from the files that its description names to all that is written of it.
-use Rattle.std.specs.Prelude.{◌≡◌, ℕ, ◌+◌, eqb, not, ◌<◌, List, [], ◌∷◌, ◌++◌, length, replicate, slice_get, cond, drop, nat_lt, option_map, Option, Some, None}
+use Rattle.std.specs.Prelude.{◌≡◌, ℕ, ◌+◌, eqb, not, List, [], ◌∷◌, ◌++◌, length, replicate, slice_get, cond, drop, nat_lt, option_map, Option, Some, None}
 use Rattle.std.specs.FinMap as fin
 use Rattle.cg_base.specs.Outside.{Files}
 use Rattle.cg_svspec.specs.Characters.{Each}
@@ -9,7 +9,7 @@ use Rattle.cg_files.specs.Files.{limit}
 use Rattle.cg_outputs.specs.declared.out_file.OutFile.{OutFile}
 use Rattle.cg_keep.specs.Files.{AreWanted, BuiltMeans, IsBuilt}
 use Rattle.cg_keep.specs.Files as keep
-use Rattle.cg_gen.specs.OneFile.{stored_name}
+use Rattle.cg_deeds.specs.Told.{stored_name}
 use Rattle.cg_gen.specs.Reads.{Read}
 
 -- ---- names

@@ -1,7 +1,7 @@
 ghost use Rattle.std.specs.Prelude.{◌≡◌};
 ghost use Rattle.cg_gen.specs.Run.{code_of};
 
-use crate::deed::Status;
+use crate::due::Status;
 
 /// How a run ended; `code` gives the number with which the program ends.
 #[derive(Clone, Copy, Debug, PartialEq, Eq)]

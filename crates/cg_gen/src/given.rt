@@ -5,8 +5,8 @@ ghost use Rattle.cg_base.specs.Outside.{Rose, also_asked};
 ghost use Rattle.cg_gen.specs.Reads.{Gave, read};
 ghost use Rattle.cg_gen.specs.Inner.{IsGiven};
 
-use crate::stop::Stop;
 use cg_base::{Found, List, Store, StoreFault};
+use cg_deeds::Stop;
 use cg_files::LIMIT;
 use std::alloc::Global;
 

@@ -1,20 +1,22 @@
 //! What is due for the words: a command has its own file, and one line here.
 
-ghost use Rattle.std.specs.Prelude.{◌≡◌, map, string_bytes, IfOk, IfErr, Option, List, ℕ};
+ghost use Rattle.std.specs.Prelude.{◌≡◌, ◌≤◌, IfOk, IfErr, Option, List, ℕ};
 ghost use Rattle.cg_words.specs.Words.{IsCommand};
 ghost use Rattle.cg_words.specs.declared.command.Command.TheVariants.{Regtool, Tlgen};
 ghost use Rattle.cg_gen.specs.Due.{due_of_no_command};
-ghost use Rattle.cg_gen.specs.Inner.{PlanEnds};
+ghost use Rattle.cg_gen.specs.Inner.{AreWords, PlanEnds};
+ghost use Rattle.cg_gen.specs.Sample.{IsSampleDue};
 
-use crate::deed::Due;
+use crate::due::Due;
 use crate::given::read_file;
 use crate::regtool::regtool_due;
-use crate::stop::Stop;
+use crate::samples::sample_due;
 use crate::tlgen::tlgen_due;
 use crate::told::usage_due;
 use crate::topgen::topgen;
 use cg_base::{Gate, Memory, Steps, Store};
-use cg_words::{Command, RegOut, WordsFault, read_words};
+use cg_deeds::Stop;
+use cg_words::{Command, RegOut};
 use std::alloc::Global;
 use std::sync::ledger::Ledger;
 use std::thread::Threads;
@@ -57,6 +59,26 @@ fn tlgen<S: Store>(alloc: Global, file: &str, dir: &str, store: &mut S) -> Resul
     }
 }
 
+/// `sample`: a large top is built in memory, and what there is of it is told.
+fn sample<R: Threads + Sync, G: Gate + Sync, L: Ledger>(
+    rt: &R,
+    alloc: Global,
+    number: u32,
+    gate: &G,
+    steps: &mut Steps<L>,
+) -> Result<Due, Stop>
+    requires least { 1 ≤ number }
+    requires most { number ≤ 200 }
+    ensures due { IfOk result (λ due. IsSampleDue number due) }
+    ensures memory { IfErr result (λ e. e ≡ Stop.Memory) }
+    ensures steps { steps.new ≡ steps.old }
+{
+    match sample_due(rt, alloc, number, gate, steps) {
+        Ok(due) => Ok(due),
+        Err(Memory) => Err(Stop::Memory),
+    }
+}
+
 /// The usage text is due.
 fn usage(alloc: Global) -> Result<Due, Stop>
     ensures due { IfOk result (λ d. d ≡ due_of_no_command) }
@@ -68,26 +90,27 @@ fn usage(alloc: Global) -> Result<Due, Stop>
     }
 }
 
-/// What is due for the words. Words of a command that is not built are answered like words that are none.
+/// What is due for words that are this command, or none. Words of a command that is not built are answered like words that are none.
 pub fn plan<R: Threads + Sync, S: Store, G: Gate + Sync, L: Ledger>(
     rt: &R,
     alloc: Global,
-    words: &[String],
+    command: Option<Command>,
     store: &mut S,
     gate: &G,
     steps: &mut Steps<L>,
 ) -> Result<Due, Stop>
-    ensures ends { PlanEnds result (map string_bytes words.now) (S.content store.old) (S.asked store.old) (S.asked store.new) (S.read_faults store.old) (S.read_faults store.new) }
+    requires { (words : List (List ℕ)) × AreWords words command }
+    ensures ends { (words : List (List ℕ)) → AreWords words command → PlanEnds result words (S.content store.old) (S.asked store.old) (S.asked store.new) (S.read_faults store.old) (S.read_faults store.new) }
     ensures same { S.content store.new ≡ S.content store.old }
     ensures changes { S.change_faults store.new ≡ S.change_faults store.old }
     ensures steps { steps.new ≡ steps.old }
 {
-    match read_words(alloc, words) {
-        Ok(Command::Regtool { made, dir, file }) => {
+    match command {
+        Some(Command::Regtool { made, dir, file }) => {
             regtool(alloc, made, dir.as_str(), file.as_str(), store)
         }
-        Ok(Command::Tlgen { file, dir }) => tlgen(alloc, file.as_str(), dir.as_str(), store),
-        Ok(Command::Topgen { file, dir, workers }) => topgen(
+        Some(Command::Tlgen { file, dir }) => tlgen(alloc, file.as_str(), dir.as_str(), store),
+        Some(Command::Topgen { file, dir, workers }) => topgen(
             rt,
             alloc,
             file.as_str(),
@@ -97,10 +120,9 @@ pub fn plan<R: Threads + Sync, S: Store, G: Gate + Sync, L: Ledger>(
             gate,
             steps,
         ),
-        Ok(Command::Session { .. }) => usage(alloc),
-        Ok(Command::Probe { .. }) => usage(alloc),
-        Ok(Command::Sample { .. }) => usage(alloc),
-        Err(WordsFault::NotCommand) => usage(alloc),
-        Err(WordsFault::Memory) => Err(Stop::Memory),
+        Some(Command::Session { .. }) => usage(alloc),
+        Some(Command::Probe { .. }) => usage(alloc),
+        Some(Command::Sample { number }) => sample(rt, alloc, number, gate, steps),
+        None => usage(alloc),
     }
 }

@@ -6,7 +6,7 @@ ghost use Rattle.cg_words.specs.declared.command.Command.TheVariants.{Tlgen};
 ghost use Rattle.cg_gen.specs.Reads.{read};
 ghost use Rattle.cg_gen.specs.Inner.{IsGiven, IsDueFrom, only_file};
 
-use crate::deed::Due;
+use crate::due::Due;
 use crate::given::Given;
 use crate::told::{alone, fault_due, outputs_due};
 use cg_base::Memory;

@@ -3,12 +3,14 @@
 ghost use Rattle.std.specs.Prelude.{◌≡◌, map, length, IfOk};
 ghost use Rattle.cg_desc.specs.FaultText.{fault_line};
 ghost use Rattle.cg_outputs.specs.Outputs.{AreOutputs};
-ghost use Rattle.cg_gen.specs.declared.deed.Status.TheVariants.{Refused};
-ghost use Rattle.cg_gen.specs.OneFile.{stored_name};
-ghost use Rattle.cg_gen.specs.Due.{line, usage, built_line, write_of, due_of_line, due_of_outputs, due_of_no_command};
+ghost use Rattle.cg_gen.specs.declared.due.Status.TheVariants.{Refused};
+ghost use Rattle.cg_deeds.specs.Told.{stored_name};
+ghost use Rattle.cg_deeds.specs.Told.{line, built_line};
+ghost use Rattle.cg_gen.specs.Due.{usage, write_of, due_of_line, due_of_outputs, due_of_no_command};
 
-use crate::deed::{Deed, Due, Status, Stream};
+use crate::due::{Due, Status};
 use cg_base::{List, Memory, Text};
+use cg_deeds::{Deed, Stream, built_line, stored_name};
 use cg_desc::{Fault, fault_text};
 use cg_outputs::OutFile;
 use std::alloc::Global;
@@ -47,25 +49,6 @@ pub fn usage_due(alloc: Global) -> Result<Due, Memory>
 {
     let line = Text::of(alloc, usage())?;
     line_due(alloc, line, Status::NoCommand)
-}
-
-/// How many files were written and removed.
-fn built_line(alloc: Global, written: usize, removed: usize) -> Result<Text, Memory>
-    ensures { IfOk result (λ t. t ≡ built_line written removed) }
-{
-    let line = format!(in alloc; "built {written} {removed}\n")?;
-    Ok(Text::from_string(line))
-}
-
-/// A file's name in the store: the folder, `/` and its name.
-#[tactic(auto, using(crate::proofs::Lists::appends))]
-fn stored_name(alloc: Global, dir: &str, name: &str) -> Result<Text, Memory>
-    ensures { IfOk result (λ t. t ≡ stored_name dir.now name.now) }
-{
-    let mut stored = Text::of(alloc, dir)?;
-    stored.add("/")?;
-    stored.add(name)?;
-    Ok(stored)
 }
 
 /// A file is to be written into the folder.

@@ -11,11 +11,11 @@ ghost use Rattle.cg_gen.specs.Inner.{IsGiven, PlanEnds};
 ghost use Rattle.cg_gen.specs.Reads.{Read, name_of_file, names_of};
 ghost use Rattle.cg_gen.specs.Topgen.{StandsIn, as_kept, too_many, with_given};
 
-use crate::deed::Due;
+use crate::due::Due;
 use crate::given::{Given, read_file};
-use crate::stop::Stop;
 use crate::told::{fault_due, outputs_due};
 use cg_base::{Gate, List, Memory, Steps, Store, Text};
+use cg_deeds::Stop;
 use cg_desc::Fault;
 use cg_files::LIMIT;
 use cg_keep::{Keep, KeepFault, a_build_is_one};

@@ -1,7 +1,7 @@
 use Rattle.std.proofs.Common.{subst}
-use Rattle.cg_gen.specs.Outside.{Outlets, outlets}
-use Rattle.cg_gen.specs.Deeds.{StoppedAt, contents}
-use Rattle.cg_gen.proofs.Stopping.{stopped_at}
+use Rattle.cg_deeds.specs.Outside.{Outlets, outlets}
+use Rattle.cg_deeds.specs.Deeds.{StoppedAt, contents}
+use Rattle.cg_deeds.proofs.Stopping.{stopped_at}
 use Rattle.cg_gen.proofs.perform.perform.Goals as goal
 
 -- an object failed at one of the deeds

@@ -1,4 +1,3 @@
-use Rattle.std.proofs.Common.{◌≡◌}
 use Rattle.cg_gen.specs.Gathering.{Shown, TopEnds, shown}
 use Rattle.cg_gen.proofs.Gathering.{passed_on}
 use Rattle.cg_gen.proofs.TopPlan.{all_gathered, some_stopped}

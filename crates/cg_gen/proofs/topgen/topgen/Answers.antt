@@ -1,4 +1,4 @@
-use Rattle.std.proofs.Common.{◌≡◌, ◌∷◌, ◌++◌, List, ℕ, map, sym, ap, ◌∙◌}
+use Rattle.std.proofs.Common.{◌≡◌, ◌∷◌, ◌++◌, map, sym, ap, ◌∙◌}
 use Rattle.cg_keep.specs.Kept.{Kept}
 use Rattle.cg_keep.specs.declared.keep.Built.{Built}
 use Rattle.cg_gen.specs.Gathering.{Shown, shown}
