@@ -1,0 +1,11 @@
+pub mod Deciding
+pub mod PrintingDecides
+pub mod FormLemmas
+pub mod WidthsDecide
+pub mod RegistersDecide
+pub mod Stepping
+pub mod CountLemmas
+pub mod CountsDecide
+pub mod PartsDecide
+pub mod EntriesDecide
+pub mod WholeDecides

@@ -1,0 +1,10 @@
+pub mod BitSteps
+pub mod TableSteps
+pub mod Folds
+pub mod Agree
+pub mod Driven
+pub mod Numbers
+pub mod Resets
+pub mod Clocks
+pub mod Tables
+pub mod Meaning
