@@ -6,8 +6,10 @@
 
 mod first_faults;
 mod noted;
+mod pieces;
 mod running;
 mod runs;
+mod sessions;
 mod texts;
 mod tops;
 
@@ -36,6 +38,9 @@ fn told<R: Files + Threads + Sync>(rt: &R, alloc: Global) -> Result<String, Memo
         first_faults::answer(rt, alloc, given)
     })?;
     tables.tell("runs.txt", |alloc, given| runs::answer(rt, alloc, given))?;
+    tables.tell("sessions.txt", |alloc, given| {
+        sessions::answer(rt, alloc, given)
+    })?;
     tables.tell("texts.txt", |alloc, given| texts::answer(rt, alloc, given))?;
     tables.tell("top_rules.txt", |alloc, given| {
         tops::answer(rt, alloc, given)

@@ -3,7 +3,8 @@
 ghost use Rattle.std.specs.Prelude.{◌≡◌};
 
 use crate::noted::NotedStore;
-use cg_base::{CalmSource, List, MemSink, Memory, OpenGate, Steps};
+use crate::pieces::PiecedSource;
+use cg_base::{List, MemSink, Memory, OpenGate, Steps};
 use cg_gen::run;
 use std::alloc::Global;
 use std::marker::Brand;
@@ -37,6 +38,7 @@ fn run_counted<L: Ledger, R: Threads + Sync>(
     rt: &R,
     alloc: Global,
     words: &[String],
+    input: &mut PiecedSource,
     ran: &mut Ran,
     blank: Blank,
 )
@@ -45,13 +47,12 @@ fn run_counted<L: Ledger, R: Threads + Sync>(
     requires one { L.parts ≡ 1 }
 {
     let mut steps = Steps::<L>::new(blank);
-    let mut input = CalmSource::new(List::new(alloc));
     ran.status = run(
         rt,
         alloc,
         words,
         &mut ran.store,
-        &mut input,
+        input,
         &mut ran.out,
         &mut ran.err,
         &OpenGate,
@@ -68,6 +69,20 @@ pub fn ran_on<R: Threads + Sync>(
     bad_outputs: List<u64>,
     bad_errors: List<u64>,
 ) -> Result<Ran, Memory> {
+    let mut input = PiecedSource::empty(alloc);
+    ran_with(rt, alloc, line, store, &mut input, bad_outputs, bad_errors)
+}
+
+/// The same, with this input.
+pub fn ran_with<R: Threads + Sync>(
+    rt: &R,
+    alloc: Global,
+    line: &str,
+    store: NotedStore,
+    input: &mut PiecedSource,
+    bad_outputs: List<u64>,
+    bad_errors: List<u64>,
+) -> Result<Ran, Memory> {
     let words = words_of(alloc, line)?;
     let mut ran = Ran {
         status: 255,
@@ -75,7 +90,7 @@ pub fn ran_on<R: Threads + Sync>(
         out: MemSink::new(alloc, bad_outputs),
         err: MemSink::new(alloc, bad_errors),
     };
-    run_counted::<Brand, _>(rt, alloc, &words, &mut ran, Blank::new(1));
+    run_counted::<Brand, _>(rt, alloc, &words, input, &mut ran, Blank::new(1));
     Ok(ran)
 }
 
