@@ -21,6 +21,7 @@ use Rattle.cg_hjson.specs.declared.state.Frame.TheVariants as frames
 use Rattle.cg_hjson.specs.declared.state.Gap.{Gap}
 use Rattle.cg_hjson.specs.declared.state.Now.{Now}
 use Rattle.cg_hjson.specs.declared.state.Now.TheVariants as reads
+use Rattle.cg_hjson.specs.declared.state.Plain.{Plain}
 use Rattle.cg_hjson.specs.declared.state.Spot.{Spot}
 use Rattle.cg_hjson.specs.declared.state.Spot.TheVariants as standing
 use Rattle.cg_hjson.specs.declared.state.State.{State}
@@ -77,6 +78,10 @@ now_of (reads.PlainSlash u blanks at) = now.plain_slash (string_bytes u) (string
 now_of (reads.Quoted q e) = now.quoted q.key q.quote (string_bytes q.text) (place_of q.at) (escape_of e)
 now_of (reads.TwoQuotes at) = now.two_quotes (place_of at)
 now_of (reads.Lines l p) = now.lines (string_bytes l.text) l.ended l.before (spot_of p) (place_of l.at)
+
+-- a value without quotes that is being read
+abbrev pub plain_of : Plain → now.Now
+plain_of p = now.plain (string_bytes p.text) (string_bytes p.blanks) p.hope (place_of p.at)
 
 -- the document's tree, once it is closed
 abbrev pub found_of : Option Tree → Option document.Tree

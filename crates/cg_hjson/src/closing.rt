@@ -2,7 +2,7 @@
 
 ghost use Rattle.std.specs.Prelude.{◌≡◌, string_bytes};
 ghost use Rattle.cg_docspec.specs.Tree.{list_of, object_of, string_of};
-ghost use Rattle.cg_docspec.specs.Machine.Closing.{delivered, keyed};
+ghost use Rattle.cg_docspec.specs.Machine.Closing.{delivered};
 ghost use Rattle.cg_hjson.specs.Views.{member, member_of, members_of, place_of, tree_of, trees_of};
 ghost use Rattle.cg_hjson.specs.Reading.{GivesGap, frames_of};
 
@@ -45,25 +45,6 @@ pub fn delivered(mut stack: Stack<Frame>, tree: Tree) -> Result<Gap, Stop>
     }
 }
 
-/// A key is read: its colon comes next.
-#[tactic(auto, unfolding(cg_docspec::specs::Machine::Closing::keyed))]
-pub fn keyed(mut stack: Stack<Frame>, key: String, key_at: At) -> Result<Gap, Stop>
-    ensures { GivesGap result (keyed (frames_of stack) (string_bytes key) (place_of key_at)) }
-{
-    match stack.pop() {
-        Some(Frame::InObject(at, members)) => {
-            stack.push(Frame::InMember(at, members, Text::from_string(key), key_at))?;
-            Ok(Gap {
-                stack,
-                next: Awaited::Colon,
-                found: None,
-            })
-        }
-        Some(Frame::InList(..) | Frame::InMember(..)) => Err(Stop::NoDocument),
-        None => Err(Stop::NoDocument),
-    }
-}
-
 /// The list of these values.
 #[tactic(auto, using(crate::proofs::Views::views))]
 pub fn list_of(items: List<Tree>, at: At) -> Tree
@@ -99,7 +80,7 @@ pub fn string_of(text: String, at: At) -> Tree
 
 /// A member of these parts.
 #[tactic(auto, using(crate::proofs::Views::views))]
-fn member_of(key: Text, key_at: At, value: Tree) -> Member
+pub fn member_of(key: Text, key_at: At, value: Tree) -> Member
     ensures { member_of result ≡ member key (place_of key_at) (tree_of value) }
 {
     Member { key, key_at, value }

@@ -22,9 +22,11 @@ mod quoted;
 mod reader;
 mod stack;
 mod state;
+mod staying;
 mod steps;
 mod token;
 mod tree;
+mod turning;
 
 pub use json_value::{members_are_kept, to_json};
 pub use place::{START, place_behind};

@@ -4,14 +4,13 @@ ghost use Rattle.std.specs.Prelude.{◌≡◌, string_bytes};
 ghost use Rattle.cg_docspec.specs.Quoted.{escaped, hex, is_high, paired};
 ghost use Rattle.cg_docspec.specs.Machine.Now as now;
 ghost use Rattle.cg_docspec.specs.Machine.State.{reading};
-ghost use Rattle.cg_docspec.specs.Machine.Quote.{behind_backslash, escape_more, in_quoted, in_unit, may_stand, outside_escape, quoted_end, quoted_more, scalar_or_none, unit_digit, unit_end};
+ghost use Rattle.cg_docspec.specs.Machine.Quote.{behind_backslash, escape_more, in_quoted, in_unit, may_stand, outside_escape, quoted_more, scalar_or_none, unit_digit, unit_end};
 ghost use Rattle.cg_hjson.specs.Views.{place_of};
 ghost use Rattle.cg_hjson.specs.Reading.{Gives, escape_of, frames_of, state_of};
 
-use crate::characters::is_control;
-use crate::closing::{delivered, keyed, string_of};
 use crate::stack::Stack;
-use crate::state::{Escape, Frame, Now, Quoted, State, Stop, gap_state, reading};
+use crate::state::{Awaited, Escape, Frame, Now, Quoted, State, Stop, reading};
+use crate::turning;
 
 /// The character that a backslash and this one stand for.
 fn escaped(c: char) -> Option<char>
@@ -65,42 +64,13 @@ fn escape_more(stack: Stack<Frame>, quoted: Quoted, c: Option<char>) -> Result<S
     }
 }
 
-/// The closing quote. Two single ones of a value may begin a multi-line string.
-#[tactic(auto, unfolding(cg_docspec::specs::Machine::Quote::quoted_end))]
-fn quoted_end(stack: Stack<Frame>, quoted: Quoted) -> Result<State, Stop>
-    ensures { Gives result (quoted_end (frames_of stack) quoted.key quoted.quote (string_bytes quoted.text) (place_of quoted.at)) }
-{
-    let Quoted {
-        key,
-        quote,
-        text,
-        at,
-    } = quoted;
-    if key {
-        let gap = keyed(stack, text, at)?;
-        Ok(gap_state(gap))
-    } else if quote == '\'' && text.as_str().is_empty() {
-        Ok(reading(stack, Now::TwoQuotes(at)))
-    } else {
-        let gap = delivered(stack, string_of(text, at))?;
-        Ok(gap_state(gap))
-    }
-}
-
 /// In no escape.
-#[tactic(auto, unfolding(cg_docspec::specs::Machine::Quote::outside_escape))]
 fn outside_escape(stack: Stack<Frame>, quoted: Quoted, c: char) -> Result<State, Stop>
     ensures { Gives result (outside_escape (frames_of stack) quoted.key quoted.quote (string_bytes quoted.text) (place_of quoted.at) c) }
 {
-    if c == quoted.quote {
-        quoted_end(stack, quoted)
-    } else if c == '\\' {
-        Ok(quoted_on(stack, quoted, Escape::Backslash))
-    } else if is_control(c) {
-        Err(Stop::NoDocument)
-    } else {
-        quoted_more(stack, quoted, c)
-    }
+    let mut state = reading(stack, Now::Gap(Awaited::Value));
+    turning::outside_escape(&mut state, quoted, c)?;
+    Ok(state)
 }
 
 /// Behind a backslash.

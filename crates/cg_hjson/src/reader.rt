@@ -12,7 +12,7 @@ ghost use Rattle.cg_hjson.specs.Answers.{IsRight, Tells};
 use crate::place::{START, next_place};
 use crate::stack::Stack;
 use crate::state::{Awaited, Now, State, Stop};
-use crate::steps::step;
+use crate::staying::advance;
 use crate::tree::Tree;
 use cg_desc::At;
 use std::alloc::Global;
@@ -55,8 +55,8 @@ fn run(alloc: Global, text: &str) -> Result<Tree, HjsonFault>
     let mut at = START;
     let mut state = start(alloc);
     for c in text.chars() {
-        match step(alloc, at, state, c) {
-            Ok(next) => state = next,
+        match advance(alloc, at, &mut state, c) {
+            Ok(()) => {}
             Err(Stop::NoDocument) => return Err(HjsonFault::NotDocument { at }),
             Err(Stop::Memory) => return Err(HjsonFault::Memory),
         }

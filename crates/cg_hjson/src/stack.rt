@@ -1,4 +1,4 @@
-ghost use Rattle.std.specs.Prelude.{◌≡◌, ◌∷◌, [], OnOk, MatchOption, length};
+ghost use Rattle.std.specs.Prelude.{◌≡◌, ◌∷◌, [], List, OnOk, MatchOption, length};
 
 use cg_base::Memory;
 use std::alloc::Global;
@@ -36,6 +36,13 @@ impl<T: Drop> Stack<T> {
         ensures { result ≡ length self.now }
     {
         self.items.len()
+    }
+
+    /// The top item; `None` exactly where the stack is empty.
+    pub fn top(&self) -> Option<&T>
+        ensures { MatchOption result (self.now ≡ []) (λ top. (rest : List T) × (self.now ≡ top.now ∷ rest)) }
+    {
+        self.items.as_slice().last()
     }
 
     /// Puts an item on top.

@@ -19,13 +19,13 @@ returns-in-Err-NoDocument c =
 pub returns-then-len-gt64 : goal.returns-then-len-gt64
 returns-then-len-gt64 c =
     let first = first_character _ _ c.in-Some.c c.loop-c.invariant.utf8 c.in-Some.ensures.steps.0 in
-    let deep : 64 < length (frames_of c.in-Ok.next.stack) = omega (arith, length-map c.in-Ok.next.stack frame_of, c.len.ensures, c.if-len-gt64.true) in
+    let deep : 64 < length (frames_of c.advance.new.state.stack) = omega (arith, length-map c.advance.new.state.stack frame_of, c.len.ensures, c.if-len-gt64.true) in
     sym c.loop-c.invariant.same ∙ rw first.0 (answer_deep _ _ _ _ _ c.in-Ok.ensures deep)
 
 pub loop-c-preserved : goal.loop-c-preserved
 loop-c-preserved c =
     let first = first_character _ _ c.in-Some.c c.loop-c.invariant.utf8 c.in-Some.ensures.steps.0 in
-    let low : length (frames_of c.in-Ok.next.stack) ≤ 64 = omega (arith, length-map c.in-Ok.next.stack frame_of, c.len.ensures, c.if-len-gt64.false) in
+    let low : length (frames_of c.advance.new.state.stack) ≤ 64 = omega (arith, length-map c.advance.new.state.stack frame_of, c.len.ensures, c.if-len-gt64.false) in
     let more = answer_more (place_of c.loop-c.at) (state_of c.loop-c.state) c.in-Some.c (chars (chars_rest c.next.new.self)) _ c.in-Ok.ensures low in
     let bounds = next_bounds (place_of c.loop-c.at) c.in-Some.c in
     let place = c.next_place-at.ensures in
