@@ -13,6 +13,7 @@ mod build;
 mod files;
 mod given;
 mod pins;
+mod shared;
 mod shown;
 mod sources;
 
@@ -27,6 +28,7 @@ fn told<R: Files>(rt: &R, alloc: Global) -> Result<String, Memory> {
     tables.tell("top_faults.txt", asked::answer)?;
     tables.tell("spaces.txt", asked::answer)?;
     tables.tell("maps.txt", asked::answer)?;
+    tables.tell("shared.txt", shared::answer)?;
     tables.tell("sources.txt", asked::answer)?;
     tables.tell("pins.txt", asked::answer)?;
     Ok(tables.told())

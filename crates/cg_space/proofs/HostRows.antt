@@ -244,13 +244,13 @@ host_devices m x h node sound host at =
 
 -- ---- the same rows in another order
 
-contains_of : (xs : List Row) (x : Row) → Among x xs → Contains xs x
+contains_of : {X : Type 0} (xs : List X) (x : X) → Among x xs → Contains xs x
 contains_of xs x among = let at = among_at xs x among in (at.0, slice_get_within xs at.0 x at.1, get_or_from_slice_get xs at.0 x x at.1)
 
-of_contains : (xs : List Row) (x : Row) → Contains xs x → Among x xs
+of_contains : {X : Type 0} (xs : List X) (x : X) → Contains xs x → Among x xs
 of_contains xs x contains = at_among xs contains.0 x (slice_get-get_or xs contains.0 x contains.1 ∙ ap Some contains.2)
 
-pub among_moved : (xs ys : List Row) (x : Row) → IsPermutation xs ys → Among x xs → Among x ys
+pub among_moved : {X : Type 0} (xs ys : List X) (x : X) → IsPermutation xs ys → Among x xs → Among x ys
 among_moved xs ys x moves among = of_contains ys x (Contains-permutation xs ys x moves (contains_of xs x among))
 
 pub host_members : (m : MergedTop) (x h : ℕ) (node : NodeDesc) (to : List ℕ) (rows sorted : List Row) → IsSound m → IsMapHost m x h → NodeAt m x h node → to ≡ node.to

@@ -6,3 +6,4 @@ pub mod Sound
 pub mod Tables
 pub mod Verdicts
 pub mod Leaves
+pub mod Extents

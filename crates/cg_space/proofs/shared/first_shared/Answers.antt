@@ -1,19 +1,21 @@
-use Rattle.std.proofs.Common.{refl}
-use Rattle.cg_space.proofs.Sharing.{coverage_more, first_here, none_at_all}
+use Rattle.std.proofs.Common.{sym, ◌∙◌, arith}
+use Rattle.std.proofs.lemmas.Bool.{true≢false}
+use Rattle.cg_space.proofs.Sharing.{first_at, have_addresses, none_at_all}
 use Rattle.cg_space.proofs.shared.first_shared.Goals as goal
 
-pub returns-then-coverage : goal.returns-then-coverage
-returns-then-coverage c =
-    first_here c.args.ranges.now c.loop-place.place c.loop-place.coverage c.add.new.self c.loop-place.invariant
-    (coverage_more c.args.ranges.now c.loop-place.place _ _ c.loop-place.coverage c.in_ok-one.field-0 c.add.new.self c.loop-place-test.true refl c.loop-place.invariant
-    c.in_ok-one.ensures c.in_ok-add.ensures) c.if-coverage.true
+pub meet-requires : goal.meet-requires
+meet-requires c = record { addresses = rw c.deref.ensures.value (have_addresses c.args.ranges.now c.in_ok-extents.extents.items c.in_ok-extents.ensures.are) }
 
-pub loop-place-preserved : goal.loop-place-preserved
-loop-place-preserved c = record {
-  is = coverage_more c.args.ranges.now c.loop-place.place _ _ c.loop-place.coverage c.in_ok-one.field-0 c.add.new.self c.loop-place-test.true refl c.loop-place.invariant
-      c.in_ok-one.ensures c.in_ok-add.ensures;
-  none = c.if-coverage.false;
-}
+pub returns-then-not-meet : goal.returns-then-not-meet
+returns-then-not-meet c =
+    none_at_all c.args.ranges.now c.in_ok-extents.extents.items _ c.in_ok-extents.ensures.are (omega arith)
+    (λ both. true≢false (sym (c.meet.ensures.1 (rw c.deref.ensures.value both)) ∙ c.if-not-meet.true))
+
+pub meet-requires-in-loop-low : goal.meet-requires-in-loop-low
+meet-requires-in-loop-low c =
+    record { addresses = rw c.deref-in-loop-low.ensures.value (have_addresses c.args.ranges.now c.in_ok-extents.extents.items c.in_ok-extents.ensures.are) }
 
 pub returns : goal.returns
-returns c = none_at_all c.args.ranges.now c.loop-place.place c.loop-place.coverage c.loop-place-test.false c.loop-place.invariant
+returns c =
+    first_at c.args.ranges.now c.in_ok-extents.extents.items c.loop-low.low c.loop-low.high c.in_ok-extents.ensures.are c.in_ok-extents.ensures.rise c.loop-low-test.false
+    c.loop-low.invariant

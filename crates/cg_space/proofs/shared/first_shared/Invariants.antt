@@ -1,6 +1,10 @@
-use Rattle.cg_space.proofs.Sharing.{NoneShared}
+use Rattle.std.proofs.Common.{◌-◌}
+use Rattle.cg_space.proofs.Sharing.{Between}
 use Rattle.cg_space.proofs.shared.first_shared.Given as goal
 
--- no two of the ranges so far share an address
-abbrev pub invariant-loop-place : goal.invariant-loop-place
-invariant-loop-place l = NoneShared l.ranges l.place l.coverage
+-- the least place stands between the two
+abbrev pub invariant-loop-low : goal.invariant-loop-low
+invariant-loop-low l = Between l.extents.items l.low l.high
+
+abbrev pub decreases-loop-low : goal.decreases-loop-low
+decreases-loop-low l = l.high - l.low
