@@ -142,7 +142,7 @@ drivers_decide m =
 
 -- ---- what is driven
 
-driven_decides : (m : Module) (n : List ℕ) → Decides (is_driven m n) (Among n (drivers_of m))
+pub driven_decides : (m : Module) (n : List ℕ) → Decides (is_driven m n) (Among n (drivers_of m))
 unfolding is_driven
 driven_decides m n = decided (is_driven m n) (ltb 0 (count n (drivers_of m))) (ap (λ (k : ℕ). ltb 0 k) (sym (drivers_are m n))) (counted_decides n (drivers_of m))
 

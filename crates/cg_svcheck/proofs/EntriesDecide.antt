@@ -27,7 +27,7 @@ first_of None q r = refl
 first_of (Some w) q r = refl
 
 -- or nothing
-or_nothing : (p : Option ℕ) → or_else p None ≡ p
+pub or_nothing : (p : Option ℕ) → or_else p None ≡ p
 or_nothing None = refl
 or_nothing (Some w) = refl
 
@@ -47,7 +47,7 @@ wires_more (drive w n y ∷ es) x k = by (bytes_eq n k) (wires_more es x k) wher
 wires_more (assign n y ∷ es) x k = wires_more es x k
 wires_more (inst m ps n cs ∷ es) x k = wires_more es x k
 
-above_more : (ports : List Port) (above : List Entry) (x : Entry) (k : List ℕ) → width_above ports (above ++ x ∷ []) k ≡ or_else (width_above ports above k) (width_at (wire_nets (x ∷ [])) k)
+pub above_more : (ports : List Port) (above : List Entry) (x : Entry) (k : List ℕ) → width_above ports (above ++ x ∷ []) k ≡ or_else (width_above ports above k) (width_at (wire_nets (x ∷ [])) k)
 unfolding width_above
 above_more ports above x k =
     ap (or_else (width_at (port_nets ports) k)) (wires_more above x k)
@@ -96,7 +96,7 @@ one_more false true true c d is = refl
 one_more false false true c d is = lt-ltb 0 d (omega (arith, is))
 one_more i t false c d is = ap (λ (k : ℕ). i || (t || ltb 0 k)) (omega (arith, is))
 
-known_more : (m : Module) (above : List Entry) (x : Entry) (b : Bool) (k : List ℕ) → expressions_count k (x ∷ []) ≡ one_if b → is_known m (above ++ x ∷ []) k ≡ (b || is_known m above k)
+pub known_more : (m : Module) (above : List Entry) (x : Entry) (b : Bool) (k : List ℕ) → expressions_count k (x ∷ []) ≡ one_if b → is_known m (above ++ x ∷ []) k ≡ (b || is_known m above k)
 unfolding is_known
 known_more m above x b k is =
     one_more (is_among (inputs_of m.ports) k) (ltb 0 (instances_count (inputs_of m.ports) k m.entries)) b (expressions_count k above) (expressions_count k (above ++ x ∷ []))

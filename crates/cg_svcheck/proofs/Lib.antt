@@ -9,3 +9,7 @@ pub mod CountsDecide
 pub mod PartsDecide
 pub mod EntriesDecide
 pub mod WholeDecides
+pub mod Growing
+pub mod Listing
+pub mod Moving
+pub mod Driving

@@ -7,14 +7,14 @@ use Rattle.cg_svcheck.specs.Widths.{width_above, is_known}
 use Rattle.cg_svcheck.specs.Fitting.{entry_fits, entries_fit}
 
 -- the entries above one more
-one_more : (es : List Entry) (p : ℕ) (x : Entry) (rest : List Entry) → drop p es ≡ x ∷ rest → (take (suc p) es ≡ take p es ++ x ∷ []) × (drop (suc p) es ≡ rest)
+pub one_more : (es : List Entry) (p : ℕ) (x : Entry) (rest : List Entry) → drop p es ≡ x ∷ rest → (take (suc p) es ≡ take p es ++ x ∷ []) × (drop (suc p) es ≡ rest)
 one_more [] zero x rest e = cc
 one_more [] (suc p) x rest e = cc
 one_more (y ∷ ys) zero x rest e = let head : y ≡ x = cc in let tail : ys ≡ rest = cc in (ap (λ (z : Entry). z ∷ []) head, tail)
 one_more (y ∷ ys) (suc p) x rest e = let more = one_more ys p x rest e in (ap (λ (zs : List Entry). y ∷ zs) more.0, more.1)
 
 -- what stands for entries and one more
-viewed : (es : List Entry) (x : Entry) → map entry_of (es ++ x ∷ []) ≡ map entry_of es ++ entry_of x ∷ []
+pub viewed : (es : List Entry) (x : Entry) → map entry_of (es ++ x ∷ []) ≡ map entry_of es ++ entry_of x ∷ []
 viewed [] x = refl
 viewed (y ∷ ys) x = ap (λ (zs : List tree.Entry). entry_of y ∷ zs) (viewed ys x)
 

@@ -14,7 +14,7 @@ use Rattle.cg_svcheck.proofs.CountsDecide.{names_decide, drivers_decide, ports_d
 use Rattle.cg_svcheck.proofs.EntriesDecide.{entries_decide, agrees_first, tells_first, names_of_ports}
 
 -- the entries, where the module is printable and its names differ
-fit_decides : (m : Module) → IsPrintable m → Differ (module_names m)
+pub fit_decides : (m : Module) → IsPrintable m → Differ (module_names m)
     → Decides (entries_fit m [] m.entries) (EntriesFit (inputs_of m.ports) (port_nets m.ports) (inputs_of m.ports ++ instance_driven (inputs_of m.ports) m.entries) m.entries)
 fit_decides m printable differ =
     entries_decide m [] m.entries (port_nets m.ports) (inputs_of m.ports ++ instance_driven (inputs_of m.ports) m.entries) printable.entries

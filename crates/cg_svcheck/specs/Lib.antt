@@ -5,3 +5,4 @@ pub mod Counting
 pub mod Widths
 pub mod Fitting
 pub mod Whole
+pub mod Lookups

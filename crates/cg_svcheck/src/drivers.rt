@@ -21,7 +21,7 @@ fn begins_with(text: &str, start: &str) -> bool
 }
 
 /// Whether a text ends so.
-fn ends_with(text: &[u8], end: &[u8]) -> bool
+pub fn ends_with(text: &[u8], end: &[u8]) -> bool
     ensures { result ≡ ends_with text.now end.now }
 {
     let mut rest = text;
@@ -35,7 +35,7 @@ fn ends_with(text: &[u8], end: &[u8]) -> bool
 }
 
 /// Whether the module is one whose ports are known.
-fn is_part(module: &str) -> bool
+pub fn is_part(module: &str) -> bool
     ensures { result ≡ is_part «module».now }
 {
     module == "prim_flop"
@@ -66,7 +66,7 @@ fn is_input_value(ports: &[Port], expr: &Expr) -> bool
 }
 
 /// Whether the name of a connection is that of an output.
-fn is_output_name(name: &str) -> bool
+pub fn is_output_name(name: &str) -> bool
     ensures { result ≡ test.is_output_name name.now }
 {
     ends_with(name.as_bytes(), "_o".as_bytes())

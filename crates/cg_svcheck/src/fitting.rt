@@ -248,7 +248,7 @@ fn same_width(first: Option<u32>, second: Option<u32>) -> bool
     }
 }
 /// Whether an entry fits behind the entries above.
-fn entry_fits<N: Nets>(nets: &N, entry: &Entry) -> bool
+pub fn entry_fits<N: Nets>(nets: &N, entry: &Entry) -> bool
     ensures { result ≡ test.entry_fits (N.widths nets.now) (N.known nets.now) (entry_of entry.now) }
 {
     match entry {

@@ -1,7 +1,7 @@
 use Rattle.std.proofs.Common.{◌≡◌, drop, map}
 use Rattle.cg_svspec.specs.Tree.{expressions}
-use Rattle.cg_sv.specs.Views.{expression_of, entry_of, module_of}
-use Rattle.cg_svcheck.specs.Widths.{parts_use_only, is_known}
+use Rattle.cg_sv.specs.Views.{expression_of}
+use Rattle.cg_svcheck.specs.Widths.{parts_use_only}
 use Rattle.cg_svcheck.proofs.fitting.+uses.Given as goal
 
 -- what is left says what all say

@@ -1,6 +1,5 @@
 use Rattle.std.proofs.Common.{◌≡◌, drop, map}
-use Rattle.cg_sv.specs.Views.{connection_of, port_of, entry_of}
-use Rattle.cg_svcheck.specs.Widths.{width_above}
+use Rattle.cg_sv.specs.Views.{connection_of}
 use Rattle.cg_svcheck.specs.Fitting.{all_have_width}
 use Rattle.cg_svcheck.proofs.fitting.all_have_width.Given as goal
 

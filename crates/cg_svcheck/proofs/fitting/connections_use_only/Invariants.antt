@@ -1,6 +1,5 @@
 use Rattle.std.proofs.Common.{◌≡◌, drop, map}
-use Rattle.cg_sv.specs.Views.{connection_of, entry_of, module_of}
-use Rattle.cg_svcheck.specs.Widths.{is_known}
+use Rattle.cg_sv.specs.Views.{connection_of}
 use Rattle.cg_svcheck.specs.Fitting.{connections_use_only}
 use Rattle.cg_svcheck.proofs.fitting.connections_use_only.Given as goal
 

@@ -1,7 +1,7 @@
 use Rattle.std.proofs.Common.{◌≡◌, ◌<◌, ◌^◌, drop, map, Some}
 use Rattle.cg_svspec.specs.Tree.{expressions}
-use Rattle.cg_sv.specs.Views.{expression_of, port_of, entry_of}
-use Rattle.cg_svcheck.specs.Widths.{added, bounded, sum_of_widths, width_above}
+use Rattle.cg_sv.specs.Views.{expression_of}
+use Rattle.cg_svcheck.specs.Widths.{added, bounded, sum_of_widths}
 use Rattle.cg_svcheck.proofs.widths.+widths.Given as goal
 
 -- the sum so far, and the widths of the parts that are left, are those of all
